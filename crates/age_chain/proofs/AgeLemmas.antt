@@ -1,8 +1,6 @@
 -- How an age grows with a release, and what it means.
-use Rattle.std.proofs.Common.{◌≡◌, ℕ, ◌+◌, ◌≤◌, Bool, true, false, List, [], ◌∷◌, ◌++◌, length, Option, Some, None, refl, ap, ◌∙◌, arith}
-use Rattle.std.specs.Prelude.{if◌then◌else◌}
+use Rattle.std.proofs.Common.{◌≡◌, ℕ, ◌+◌, ◌≤◌, Bool, true, false, List, [], ◌∷◌, ◌++◌, length, Option, Some, None, refl, ap, ◌∙◌, arith, if◌then◌else◌, option_map}
 use Rattle.std.specs.List.{AllByRecursion as Each}
-use Rattle.std.specs.Option.{option_map}
 use Rattle.release_rows.specs.Releases.{ReleaseItems, rows_now}
 use Rattle.ucd_points.specs.Limits.{point_count}
 use Rattle.ucd_facts.specs.Facts.{Facts}

@@ -1,6 +1,5 @@
 -- The ages of code points over a chain of releases. Age is that of UAX #44, section 5.3, DerivedAge.txt; the text is this
 -- project's own.
---
 -- first_with tests c        the least number of a test that c passes, counted from 1; None where it passes none
 -- is_assigned release c     c is assigned by the rows of the release now
 -- age releases c            the least number of a release in which c is assigned, counted from 1; None where there is none
@@ -14,9 +13,7 @@
 -- ages_in chain c           the age of c
 -- SameChain a b             the same count, last release and ages
 -- StandsFor chain releases  these are the releases of the chain
-use Rattle.std.specs.Prelude.{◌≡◌, ℕ, ◌+◌, Bool, List, [], ◌∷◌, length, map, ◌==◌, nat_lt, Option, Some, None, if◌then◌else◌, codes}
-use Rattle.std.specs.Fmt.{decimal}
-use Rattle.std.specs.Option.{option_map}
+use Rattle.std.specs.Prelude.{◌≡◌, ℕ, ◌+◌, Bool, List, [], ◌∷◌, length, map, ◌==◌, nat_lt, Option, Some, None, if◌then◌else◌, codes, decimal, option_map}
 use Rattle.range_table.specs.RunTable.{values_now}
 use Rattle.range_table.specs.declared.run_table.RunTable.{RunTable}
 use Rattle.release_rows.specs.Releases.{ReleaseItems, rows_now}

@@ -1,8 +1,6 @@
 -- What the definitions give at small examples, worked out by hand.
---
 -- sample   the code points of three releases: 1 and 2; then 2 and 3; then 1, 3 and 5
-use Rattle.std.proofs.Common.{◌≡◌, ℕ, Bool, ◌==◌, List, [], ◌∷◌, Some, None, refl, codes}
-use Rattle.std.specs.Prelude.{◌||◌}
+use Rattle.std.proofs.Common.{◌≡◌, ℕ, Bool, ◌==◌, List, [], ◌∷◌, Some, None, refl, codes, ◌||◌}
 use Rattle.std.specs.Fmt.{digits}
 use Rattle.ucd_points.specs.HexText.{hex_text, span_text}
 use Rattle.ucd_model.specs.DerivedText.{section_text}

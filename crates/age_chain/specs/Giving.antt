@@ -1,5 +1,4 @@
 -- The ages as a table keeps them: numbers from 1, and 0 for none.
---
 -- aged release n values c         n where c is assigned in the release and has no number; else its number
 -- aged_before release n end values c   so it is before `end`; from there on the numbers are the old ones
 use Rattle.std.specs.Prelude.{ℕ, ◌&&◌, ◌==◌, nat_lt, if◌then◌else◌}

@@ -1,23 +1,20 @@
 -- Keys that are the same, and what a map keeps under them.
-use Rattle.std.proofs.Common.{◌≡◌, ℕ, ◌+◌, ◌<◌, ◌==◌, length, drop, take, get_or, Bool, true, false, not, ◌&&◌, ◌||◌, List, [], ◌∷◌, Option, Some, None, IsSome, refl, sym, ap, subst, ◌∙◌, if◌then◌else◌, eqb-true, arith}
+use Rattle.std.proofs.Common.{◌≡◌, ℕ, ◌+◌, ◌<◌, ◌==◌, length, drop, take, get_or, Bool, true, false, not, ◌&&◌, ◌||◌, List, [], ◌∷◌, Option, Some, None, IsSome, refl, sym, ap, subst, ◌∙◌, if◌then◌else◌, eqb-true, arith, is_some, unwrap_or, bytes_eq, Ordering}
 use Rattle.std.specs.BTreeMap.{BTreeMap, UpdatesBy, get_by, is_at}
 use Rattle.std.specs.List.{list_any}
 use Rattle.std.specs.Map.{KeepsOthers, lookup}
-use Rattle.std.specs.Option.{is_some, unwrap_or}
 use Rattle.std.specs.Cmp.Derive.Mapped.{lex_map}
 use Rattle.std.specs.Cmp.Lexicographic.{slice_cmp}
 use Rattle.std.specs.Ordering.{eq_by_cmp, is_eq, nat_cmp, ordering_then}
-use Rattle.std.specs.Str.{bytes_eq}
-use Rattle.std.specs.declared.cmp.Ordering.{Ordering}
-use Rattle.std.specs.declared.cmp.Ordering.TheVariants.{Less}
 use Rattle.std.proofs.Math.Path.{fun_ext}
 use Rattle.std.proofs.lemmas.Bool.{and_parts, and_from, eq-eqb}
 use Rattle.std.proofs.lemmas.Bool.Decides.{nat_tests}
 use Rattle.std.proofs.lemmas.List.{drop_more}
 use Rattle.std.proofs.lemmas.List.Folds.{list_any_more}
 use Rattle.std.proofs.lemmas.Map.Text.{is_eq-slice_cmp}
-use Rattle.std.proofs.lemmas.Slice.Eq.{bytes_eq-Decides}
+use Rattle.std.proofs.lemmas.Slice.Eq.{bytes_eq-Decides, slice_eq-Decides}
 use Rattle.std.proofs.Math.Bool.{and_assoc}
+use Rattle.std.specs.Cmp.{tied_then}
 use Rattle.source_rows.specs.Keys.{same_texts}
 use Rattle.bench_editors.specs.RowKeys.{KeyParts, found_in, key_parts, last_in, row_key_cmp, same_parts}
 use Rattle.bench_editors.specs.declared.row_key.RowKey.{RowKey}
@@ -26,16 +23,10 @@ use Rattle.bench_editors.specs.declared.row_revisions.RowRevisions.{RowRevisions
 -- ---- parts that are the same
 
 names_same : (a b : List (List ℕ)) → same_texts a b ≡ true → a ≡ b
-names_same [] [] h = refl
-names_same [] (y ∷ b) h = absurd cc
-names_same (x ∷ a) [] h = absurd cc
-names_same (x ∷ a) (y ∷ b) h =
-    let both = and_parts (bytes_eq x y) (same_texts a b) h in
-    rw ((bytes_eq-Decides x y).0 both.0, names_same a b both.1) refl
+names_same a b = (slice_eq-Decides bytes_eq-Decides a b (same_texts a b) refl).0
 
 names_themselves : (a : List (List ℕ)) → same_texts a a ≡ true
-names_themselves [] = refl
-names_themselves (x ∷ a) = and_from (bytes_eq x x) (same_texts a a) ((bytes_eq-Decides x x).1 refl) (names_themselves a)
+names_themselves a = (slice_eq-Decides bytes_eq-Decides a a (same_texts a a) refl).1 refl
 
 abbrev these : ℕ → ℕ → List (List ℕ) → KeyParts
 these file start names = record { file = file; start = start; names = names }
@@ -55,8 +46,7 @@ parts_themselves a = and_from _ _ (and_from _ _ (eq-eqb a.file a.file refl) (eq-
 -- ---- keys in order
 
 equal_then : (a b : Ordering) → is_eq (ordering_then a b) ≡ (is_eq a && is_eq b)
-equal_then Less b = refl
-equal_then _ b = refl
+equal_then a b = sym (tied_then a b)
 
 names_tell : (a b : List (List ℕ)) → is_eq (slice_cmp (slice_cmp nat_cmp) a b) ≡ same_texts a b
 names_tell [] [] = refl

@@ -1,6 +1,5 @@
 -- A desk: the rows, the editors who are present, and the groups that were accepted. What it answers to an event, and what
 -- it is afterwards.
---
 -- DeskState                 the files, the editors present, and the accepted groups in order
 -- revision_of s             how many groups were accepted
 -- is_present s editor       the editor is present

@@ -1,5 +1,4 @@
 -- What can be said of the groups that a desk accepted, and of its replies, without the desk.
---
 -- accepted_points replies   the code points of the replies Accepted, in order
 -- AcceptsEach files groups points end   the groups, applied to the files one after the other, are each accepted, change the records of
 --                           just these code points, and end in the other files

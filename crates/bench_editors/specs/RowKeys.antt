@@ -1,5 +1,4 @@
 -- Rows by numbers and texts, and the revisions that are kept under them.
---
 -- KeyParts             the place of a file among the source files; one more than a first code point, or 0; and names
 -- start_of code        one more than the code point; 0 if there is none
 -- row_parts row        of a file and a key
@@ -8,10 +7,9 @@
 -- row_key_cmp a b      by the place of the file, then by the code point, then by the names, each by its bytes
 -- found_in m parts     the revision that is kept under these parts
 -- last_in m parts      that revision; 0 if none is kept
-use Rattle.std.specs.Prelude.{ℕ, ◌+◌, Bool, ◌&&◌, ◌==◌, List, map, Option, Some, None}
+use Rattle.std.specs.Prelude.{ℕ, ◌+◌, Bool, ◌&&◌, ◌==◌, List, map, Option, Some, None, unwrap_or}
 use Rattle.std.specs.Cmp.Lexicographic.{slice_cmp}
 use Rattle.std.specs.Map.{lookup}
-use Rattle.std.specs.Option.{unwrap_or}
 use Rattle.std.specs.Ordering.{ordering_then, nat_cmp}
 use Rattle.std.specs.declared.cmp.Ordering.{Ordering}
 use Rattle.ucd_points.specs.SourceFiles.{file_place}

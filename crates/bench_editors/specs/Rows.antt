@@ -1,5 +1,4 @@
 -- The rows that groups of operations touch. Groups are numbered from 1 in their list.
---
 -- Touched                    a row, by its file and its key
 -- row_of op                  the row that an operation touches
 -- same_row a b               the same file, and equal keys
@@ -10,8 +9,7 @@
 use Rattle.std.specs.Prelude.{ℕ, ◌-◌, Bool, ◌&&◌, not, ◌==◌, List, length}
 use Rattle.std.specs.List.{list_any, suffix_len}
 use Rattle.ucd_points.specs.SourceFiles.{file_place}
-use Rattle.ucd_points.specs.declared.files.SourceFile.{SourceFile}
-use Rattle.source_rows.specs.Keys.{key_of, equal_keys}
+use Rattle.source_rows.specs.Keys.{key_of, equal_keys, SourceFile}
 use Rattle.source_rows.specs.declared.key.Key.{Key}
 use Rattle.release_rows.specs.declared.operation.Op.{Op}
 use Rattle.release_rows.specs.declared.operation.Op.TheVariants.{Add, Change, Withdraw}

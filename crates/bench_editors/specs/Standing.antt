@@ -1,5 +1,4 @@
 -- Which states a desk stands for.
---
 -- desk_bench desk         the release of its bench
 -- desk_revision desk      the last revision
 -- desk_has desk editor    the editor is present
@@ -17,8 +16,7 @@ use Rattle.std.specs.Prelude.{◌≡◌, ℕ, ◌+◌, Bool, List, take, Result,
 use Rattle.std.specs.BTreeSet.{contains}
 use Rattle.std.specs.Ordering.{nat_cmp}
 use Rattle.ucd_points.specs.declared.memory.Memory.{Memory}
-use Rattle.release_rows.specs.FileItems.{FileItem}
-use Rattle.release_rows.specs.Releases.{ReleaseItems}
+use Rattle.release_rows.specs.Releases.{ReleaseItems, FileItem}
 use Rattle.release_rows.specs.declared.operation.Op.{Op}
 use Rattle.edit_session.specs.Groups.{changed, files_facts}
 use Rattle.edit_session.specs.declared.apply_stop.Refused.{Refused as Why}

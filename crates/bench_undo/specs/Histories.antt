@@ -1,5 +1,4 @@
 -- The states of a history.
---
 -- HistoryState               how many earlier states are kept at most, the items of the files, and those of the earlier states, the latest
 --                            first
 -- accepted h files           the state after an accepted group that leaves these files: the ones before it are the latest earlier state,
@@ -15,12 +14,10 @@
 --                            state, and not where there is none
 -- IsSound files              a release keeps these files, and their rows are valid
 -- AreSound h                 so it is of each earlier state
-use Rattle.std.specs.Prelude.{◌≡◌, ℕ, List, [], ◌∷◌, None, take, Result, Ok, Err}
-use Rattle.std.specs.List.{All}
+use Rattle.std.specs.Prelude.{◌≡◌, ℕ, List, [], ◌∷◌, None, take, Result, Ok, Err, All}
 use Rattle.ucd_points.specs.declared.memory.Memory.{Memory as Lacking}
 use Rattle.ucd_model.specs.Validity.{first_broken}
-use Rattle.release_rows.specs.FileItems.{FileItem}
-use Rattle.release_rows.specs.Releases.{AllAreKept}
+use Rattle.release_rows.specs.Releases.{AllAreKept, FileItem}
 use Rattle.edit_session.specs.Groups.{CountsAs, changed, files_facts}
 use Rattle.edit_session.specs.declared.accepted.Accepted.{Accepted}
 use Rattle.edit_session.specs.declared.apply_stop.ApplyStop.{ApplyStop}

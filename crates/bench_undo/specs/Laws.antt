@@ -1,5 +1,4 @@
 -- Laws of histories.
---
 -- UndoRestores       an undo after an accepted group leaves the files as they were before the group, and of the earlier states all but an
 --                    oldest one for which there was no room
 -- SamePointsChange   the code points whose records differ are the same both ways

@@ -1,5 +1,4 @@
 -- Ways back, one behind the other.
---
 -- states ways files     the states to which the first way, the first two, and so on lead back from the files
 -- AreWays ways files    each is a way back to valid rows, from where those before it lead
 use Rattle.std.specs.Prelude.{List, [], ◌∷◌}

@@ -1,19 +1,16 @@
 -- One more member, matched.
-use Rattle.std.proofs.Common.{◌≡◌, ◌≢◌, ℕ, ◌+◌, ◌<◌, Bool, true, false, ◌==◌, ◌||◌, ◌&&◌, List, [], ◌∷◌, ◌++◌, Option, Some, None, if◌then◌else◌, length, take, drop, get_or, refl, sym, ap, ◌∙◌}
-use Rattle.std.specs.Borrow.{Bor}
+use Rattle.std.proofs.Common.{◌≡◌, ◌≢◌, ℕ, ◌+◌, ◌<◌, Bool, true, false, ◌||◌, ◌&&◌, List, [], ◌∷◌, ◌++◌, Option, Some, None, if◌then◌else◌, length, take, drop, get_or, refl, sym, ap, ◌∙◌, Bor, MatchOption, bytes_eq}
 use Rattle.std.specs.List.{flat_map, list_any}
-use Rattle.std.specs.Option.{MatchOption}
-use Rattle.std.specs.Str.{bytes_eq}
 use Rattle.std.proofs.lemmas.Slice.Eq.{bytes_eq-Decides}
 use Rattle.std.proofs.lemmas.List.{at_drop_more}
 use Rattle.std.proofs.lemmas.List.Folds.{list_any_more}
 use Rattle.std.proofs.lemmas.Bool.{and_parts, eq-eqb}
 use Rattle.ucd_model.specs.Casing.{lower, title, title_of}
 use Rattle.ucd_facts.specs.Facts.{Facts, image_points}
-use Rattle.ucd_facts.specs.Predicates.{cased}
-use Rattle.ucd_facts.specs.Unmapped.{is_same, is_unmapped}
 use Rattle.ucd_facts.specs.declared.image.Image.{Image}
 use Rattle.ucd_facts.specs.declared.image.Image.TheVariants.{Same, To}
+use Rattle.ucd_facts.specs.Predicates.{cased}
+use Rattle.ucd_facts.specs.Unmapped.{is_same, is_unmapped}
 use Rattle.case_derivation.specs.Matching.{matches}
 use Rattle.case_derivation.specs.Steps.{titled, title_image}
 

@@ -1,5 +1,4 @@
 -- The laws of case mappings. The Unicode Standard, section 3.13, toUppercase to toCasefold.
---
 -- CasemapsAreThree    Changes_When_Casemapped is Changes_When_Lowercased, Uppercased or Titlecased
 -- LowerOfJoined       what is mapped member by member has no context: the lower case of two joined lists is theirs, joined
 -- UpperOfJoined       so it is of the upper case

@@ -1,5 +1,4 @@
 -- Proofs of the laws of case mappings.
---
 -- title_cased     the title of a list that begins with a Cased point is its title mapping, and the rest in lower case
 -- title_uncased   that of a list that begins with another point is this point, and the title of the rest
 -- casemaps_are_three, lower_of_joined, upper_of_joined, fold_of_joined, title_of_word,

@@ -1,17 +1,15 @@
 -- Mappings of lists, one member after the other. The Unicode Standard, section 3.13, toUppercase to toCasefold.
---
 -- image_of casing F      the image of a point with the facts F by a mapping that each point takes by itself
 -- mapped_by F casing s   the points of the images of the members, joined in order
 -- title_image begun F    the image in a title of a point with the facts F; the title has begun where a Cased point stands
 --                        before it
 -- titled F begun s       the title of what is left, where the title has begun or not
-use Rattle.std.specs.Prelude.{ℕ, Bool, true, false, List, if◌then◌else◌}
-use Rattle.std.specs.List.{flat_map}
+use Rattle.std.specs.Prelude.{ℕ, Bool, true, false, List, if◌then◌else◌, flat_map}
 use Rattle.ucd_model.specs.Casing.{lower, title}
 use Rattle.ucd_facts.specs.Facts.{Facts, image_points}
-use Rattle.ucd_facts.specs.Predicates.{cased}
 use Rattle.ucd_facts.specs.declared.image.Image.{Image}
 use Rattle.ucd_facts.specs.declared.image.Image.TheVariants.{Same}
+use Rattle.ucd_facts.specs.Predicates.{cased}
 use Rattle.case_derivation.specs.declared.mapping.Casing.{Casing}
 use Rattle.case_derivation.specs.declared.mapping.Casing.TheVariants.{Lower, Upper, Fold}
 

@@ -1,13 +1,12 @@
 -- A code point that the index does not give asks nothing.
---
 -- unasked       who is not listed under a question, and whose own one it is not, does not ask it
 -- none_more     one more that does not pass
 -- none_between  where none of a stretch passes, and none behind it may pass, none of both does
-use Rattle.std.proofs.Common.{◌≡◌, ◌∙◌, ℕ, ◌+◌, ◌<◌, ◌≤◌, Bool, true, false, ◌||◌, List, Option, Some, None, refl, sym, ap, arith, inl, inr}
+use Rattle.std.proofs.Common.{◌≡◌, ◌∙◌, ℕ, ◌+◌, ◌<◌, ◌≤◌, Bool, true, false, List, Option, Some, None, refl, sym, ap, arith, inl, inr}
 use Rattle.std.proofs.lemmas.Bool.{cases_lt, true≢false, or_parts}
-use Rattle.ucd_facts.specs.declared.query.Query.{Query}
 use Rattle.ucd_facts.specs.declared.query.Query.TheVariants.{Pair}
 use Rattle.ucd_facts.specs.Answers.{is_asked}
+use Rattle.ucd_facts.specs.declared.query.Query.{Query}
 use Rattle.dependency_map.specs.Askers.{own_queries, asked_by, asks}
 use Rattle.dependency_map.specs.Index.{is_own, is_listed, may_ask, keeps, Lists, NoneFrom}
 

@@ -1,10 +1,10 @@
 -- The code points that pass a test, from one of them to the next.
---
 -- points_none p from        where none passes, there are none
 -- points_next p from c      where c passes and none before it does, c is the first of them
 -- points_same p r           tests that answer each code point alike have the same ones
-use Rattle.std.proofs.Common.{◌≡◌, ◌∙◌, ℕ, zero, suc, ◌+◌, ◌-◌, ◌<◌, ◌≤◌, Bool, true, false, cond, List, [], ◌∷◌, filter, refl, sym, ap, arith}
+use Rattle.std.proofs.Common.{◌≡◌, ◌∙◌, ℕ, zero, suc, ◌+◌, ◌-◌, ◌<◌, ◌≤◌, Bool, true, false, cond, [], ◌∷◌, filter, sym, ap, arith}
 use Rattle.std.specs.List.{range_with_len}
+use Rattle.ucd_points.specs.PlainProofs.{filter_alike as same}
 use Rattle.ucd_points.specs.Limits.{point_count}
 use Rattle.range_table.specs.Values.{point_count-is}
 use Rattle.dependency_map.specs.Askers.{points_from}
@@ -29,12 +29,6 @@ skipped p a (suc j) n none =
 
 first : (p : ℕ → Bool) (c n : ℕ) → p c ≡ true → filter p (range_with_len c (suc n)) ≡ c ∷ filter p (range_with_len (c + 1) n)
 first p c n here = ap (λ b. cond b (c ∷ filter p (range_with_len (c + 1) n)) (filter p (range_with_len (c + 1) n))) here
-
-same : (p r : ℕ → Bool) (a n : ℕ) → ((k : ℕ) → a ≤ k → k < a + n → p k ≡ r k) → filter p (range_with_len a n) ≡ filter r (range_with_len a n)
-same p r a zero h = refl
-same p r a (suc n) h =
-    ap (λ b. cond b (a ∷ filter p (range_with_len (a + 1) n)) (filter p (range_with_len (a + 1) n))) (h a (omega arith) (omega arith))
-    ∙ ap (λ (xs : List ℕ). cond (r a) (a ∷ xs) xs) (same p r (a + 1) n (λ k low high. h k (omega arith) (omega arith)))
 
 -- ---- over all code points
 

@@ -11,9 +11,9 @@
 use Rattle.std.specs.Prelude.{ℕ, ◌-◌, Bool, List, [], ◌∷◌, Option, Some, None, filter}
 use Rattle.std.specs.List.{list_any, range_with_len}
 use Rattle.ucd_points.specs.Limits.{point_count}
-use Rattle.ucd_facts.specs.declared.query.Query.{Query}
 use Rattle.ucd_facts.specs.declared.query.Query.TheVariants.{Row, Second}
 use Rattle.ucd_facts.specs.Answers.{is_asked}
+use Rattle.ucd_facts.specs.declared.query.Query.{Query}
 
 abbrev pub own_queries : ℕ → List Query
 own_queries c = Row c ∷ Second c ∷ []

@@ -1,5 +1,4 @@
 -- The index of the code points that ask a question.
---
 -- query_key q         where the keys of the question begin: bits 21 to 41 are its last code point, and bits 42 to 62 the first one
 --                     of a pair, 110000 (hexadecimal) for a row and 110001 for a second member
 -- is_listed has q c   c is listed under the question: its key there is one that the index has
@@ -13,9 +12,9 @@
 --                     listed too
 -- ListsFrom has kept m n   so is each from m up to n (n does not count)
 use Rattle.std.specs.Prelude.{◌≡◌, ℕ, ◌+◌, ◌*◌, ◌<◌, ◌≤◌, Bool, true, false, ◌==◌, ◌||◌, nat_le, if◌then◌else◌, List, Option, Some, None}
-use Rattle.ucd_facts.specs.declared.query.Query.{Query}
 use Rattle.ucd_facts.specs.declared.query.Query.TheVariants.{Row, Pair, Second}
 use Rattle.ucd_facts.specs.Answers.{is_asked}
+use Rattle.ucd_facts.specs.declared.query.Query.{Query}
 
 abbrev key : ℕ → ℕ → ℕ
 key s y = (s * 2097152 + y) * 2097152

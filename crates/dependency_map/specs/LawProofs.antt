@@ -1,5 +1,4 @@
 -- The code points from one on that pass a test, as a list.
---
 -- points_are_those p   the code points that pass p are all that do, no others, and rise
 -- askers_are_those     so are the askers of a question, and of questions
 use Rattle.std.proofs.Common.{◌≡◌, ◌∙◌, ℕ, zero, suc, ◌+◌, ◌-◌, ◌<◌, ◌≤◌, Bool, true, false, ◌&&◌, ◌==◌, List, get_or, filter, sym, ap, arith, inl, inr}

@@ -1,5 +1,4 @@
 -- The askers of a question as a reader of a list sees them.
---
 -- is_in points c      c is among the points
 -- AreThose p points   the points are the code points that pass p: all of them, no others, and each is below the next
 -- AskersAreThose      the askers of a question are those that ask it, and the askers of questions those that ask one of them

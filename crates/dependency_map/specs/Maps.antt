@@ -1,5 +1,4 @@
 -- What the code points of a map of dependants ask, and of one that is being made.
---
 -- asked_at at map c   the questions of c, where `at` reads the lists of the map, now or next: those that were prepared for it; its
 --                     own ones where none were
 -- put_at at listing c the same of a listing

@@ -1,5 +1,4 @@
 -- Records that are kept in a list of spans, for tests.
---
 -- entry_or rest entry      the record of the entry that was found, and rest where there is none
 -- sample_record s rest c   the record of c: that of the first entry of s whose span covers c, and without one the default, rest
 use Rattle.std.specs.Prelude.{ℕ, List, Option, Some, None, find}

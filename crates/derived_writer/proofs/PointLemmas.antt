@@ -1,6 +1,5 @@
 -- The text of a folding: each code point behind a space.
-use Rattle.std.proofs.Common.{◌≡◌, ℕ, List, [], ◌∷◌, ◌++◌, append_assoc, refl, sym, ap, ◌∙◌}
-use Rattle.std.specs.Prelude.{codes}
+use Rattle.std.proofs.Common.{◌≡◌, ℕ, List, [], ◌∷◌, ◌++◌, append_assoc, refl, sym, ap, ◌∙◌, codes}
 use Rattle.ucd_model.specs.DerivedFiles.{listed, image_text, casefold_label}
 use Rattle.ucd_facts.specs.RowTexts.{spaced}
 use Rattle.ucd_facts.specs.RowTextLemmas.{mapping_text-is}

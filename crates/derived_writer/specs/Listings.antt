@@ -1,5 +1,4 @@
 -- The sections that a value stands for, and their labels.
---
 -- check_name form     the name of the quick check of a form; check_value form R is its value in the record R
 -- listing_section l   the section that l stands for
 -- listings_of file    what the sections of a file stand for, in order

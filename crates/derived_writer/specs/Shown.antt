@@ -1,5 +1,4 @@
 -- The records of pieces, looked up once.
---
 -- IsShown R piece kept         the record that is kept is that of the first code point of the piece
 -- AreShown R pieces records    so is each, piece by piece
 use Rattle.std.specs.Prelude.{◌≡◌, ℕ, ◌<◌, List, length, slice_index_or}

@@ -1,5 +1,4 @@
 -- A derived file is a matter of the records below its bound alone.
---
 -- TextsFollowRecords   where R and S give the same record of each code point below n, the text of each file is the same
 use Rattle.std.specs.Prelude.{◌≡◌, ℕ, ◌<◌}
 use Rattle.ucd_model.specs.DerivedFiles.{derived_text}

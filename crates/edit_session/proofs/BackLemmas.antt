@@ -1,9 +1,8 @@
 -- The way back from a group, and what it leads to.
 use Rattle.std.proofs.Common.{◌≡◌, List, None, sym, ap, subst, ◌∙◌}
 use Rattle.ucd_model.specs.Validity.{first_broken}
-use Rattle.release_rows.specs.FileItems.{FileItem}
 use Rattle.release_rows.specs.Patches.{LeadsBack, SpliceItems}
-use Rattle.release_rows.specs.Releases.{AllAreKept, ReleaseItems}
+use Rattle.release_rows.specs.Releases.{AllAreKept, ReleaseItems, FileItem}
 use Rattle.edit_session.specs.Groups.{files_facts}
 use Rattle.edit_session.specs.Reverts.{Keeps}
 

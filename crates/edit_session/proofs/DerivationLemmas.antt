@@ -13,8 +13,8 @@ use Rattle.ucd_model.specs.Validity.{first_broken}
 use Rattle.ucd_model.specs.ValidityLaws.{IsValid}
 use Rattle.ucd_model.specs.ValidityProofs.{valid_is_unbroken}
 use Rattle.ucd_facts.specs.declared.form.Broken.{Broken}
-use Rattle.ucd_facts.specs.declared.query.Query.{Query}
 use Rattle.ucd_facts.specs.Answers.{TellsChanges}
+use Rattle.ucd_facts.specs.declared.query.Query.{Query}
 use Rattle.record_table.specs.Records.{record_next, record_now}
 use Rattle.record_turns.specs.Turned.{CountsWithin, IsReady, IsTurned, StopsTurn}
 use Rattle.record_turns.specs.declared.again_stop.AgainStop.{AgainStop}

@@ -1,18 +1,16 @@
 -- What some code points ask, and one more of them.
---
 -- listed_one         it is listed by its list
 -- listed_none, listed_more, listed_all   of no code points, of one more, and of all
-use Rattle.std.proofs.Common.{◌≡◌, ◌≢◌, ◌∙◌, ℕ, ◌+◌, ◌<◌, ◌≤◌, Bool, true, false, ◌==◌, ◌||◌, ◌⊎◌, List, [], length, take, get_or, refl, sym, ap, subst, arith, inl, inr}
+use Rattle.std.proofs.Common.{◌≡◌, ◌≢◌, ◌∙◌, ℕ, ◌+◌, ◌<◌, ◌≤◌, Bool, true, false, ◌==◌, ◌||◌, ◌⊎◌, List, [], length, take, get_or, refl, sym, ap, subst, arith, inl, inr, take_all}
 use Rattle.std.proofs.lemmas.Bool.{true≢false, cases_eq, or_cases, or_parts}
 use Rattle.std.proofs.lemmas.Bool.Decides.{nat_tests}
-use Rattle.std.proofs.lemmas.List.{take_all}
 use Rattle.std.proofs.lemmas.List.Folds.{list_any_more}
 use Rattle.range_table.specs.Values.{SameValues, with_span}
 use Rattle.ucd_facts.specs.Facts.{Facts}
 use Rattle.ucd_model.specs.Sameness.{is_in}
 use Rattle.ucd_facts.specs.Uniform.{IsPlain}
-use Rattle.ucd_facts.specs.declared.query.Query.{Query}
 use Rattle.ucd_facts.specs.Answers.{is_asked}
+use Rattle.ucd_facts.specs.declared.query.Query.{Query}
 use Rattle.query_laws.specs.Questions.{asked}
 use Rattle.query_laws.specs.Turns.{SameQueries}
 use Rattle.edit_session.specs.Questions.{AreListed, IsListed}

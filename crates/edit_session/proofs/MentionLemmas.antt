@@ -1,5 +1,4 @@
 -- Steps to the first code points, and to more of them.
---
 -- steps_run    to those of a stretch without mappings too, where there are steps to those before it
 -- steps_more   to one more
 -- steps_all    to all, and as another index tells them

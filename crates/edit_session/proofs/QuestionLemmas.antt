@@ -1,5 +1,4 @@
 -- What is kept of the questions of all code points, from state to state.
---
 -- keeps_same    the same questions, kept elsewhere
 -- alike         each code point is kept to ask one of the questions where each code point that they are about was walked exactly where it asks
 --               one
@@ -15,10 +14,10 @@ use Rattle.ucd_points.specs.Limits.{point_count}
 use Rattle.ucd_facts.specs.Facts.{Facts, unassigned}
 use Rattle.ucd_model.specs.Sameness.{is_in}
 use Rattle.ucd_facts.specs.Uniform.{IsPlain}
-use Rattle.ucd_facts.specs.declared.query.Query.{Query}
 use Rattle.ucd_facts.specs.declared.query.Query.TheVariants.{Row, Second}
 use Rattle.ucd_facts.specs.AnswerProofs.{queries_are_told}
 use Rattle.ucd_facts.specs.Answers.{is_asked, same_query}
+use Rattle.ucd_facts.specs.declared.query.Query.{Query}
 use Rattle.mention_index.specs.Reached.{about}
 use Rattle.query_laws.specs.PlainProofs.{plain_ask_own}
 use Rattle.query_laws.specs.Questions.{asked}

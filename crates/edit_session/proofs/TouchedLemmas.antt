@@ -1,5 +1,5 @@
 -- The code points that operations touch.
-use Rattle.std.proofs.Common.{◌≡◌, ℕ, Bool, true, false, cond, true≢false, ◌||◌, List, [], ◌++◌, length, set, get_or, filter, Result, Ok, Err, refl, sym, ap, subst, ◌∙◌, inl, inr}
+use Rattle.std.proofs.Common.{◌≡◌, ℕ, Bool, true, false, cond, true≢false, List, [], ◌++◌, length, set, get_or, filter, Result, Ok, Err, refl, sym, ap, subst, ◌∙◌, inl, inr}
 use Rattle.std.specs.List.{list_any}
 use Rattle.std.proofs.lemmas.Bool.{cases_eq, cases_lt, or_parts}
 use Rattle.std.proofs.lemmas.List.{get_or-set_other, get_or-set_same, set_past}
@@ -7,8 +7,7 @@ use Rattle.std.proofs.lemmas.List.Folds.{list_any-append}
 use Rattle.ucd_points.specs.Bounds.{Bounds}
 use Rattle.ucd_facts.specs.Facts.{Facts, within}
 use Rattle.ucd_points.specs.SourceFiles.{file_at, file_at-place, file_place}
-use Rattle.ucd_points.specs.declared.files.SourceFile.{SourceFile}
-use Rattle.release_rows.specs.FileItems.{FileItem, rows_in}
+use Rattle.release_rows.specs.FileItems.{FileItem, rows_in, SourceFile}
 use Rattle.release_rows.specs.OperationLaws.{RowsStay, speaks_of}
 use Rattle.release_rows.specs.Operations.{AnswersOp, edited, op_file, op_or_rule, touched, with_edited}
 use Rattle.release_rows.specs.Releases.{items_at, with_items}

@@ -1,5 +1,4 @@
 -- What a bench shows.
---
 -- bench_facts release          the facts of the release's rows now
 -- bench_record release c       the record of c that is derived of these facts
 -- bench_word release c         the packed word of these facts of c

@@ -1,9 +1,7 @@
 -- A group that has raised the counter of steps by nothing so far.
---
 -- none_counted    nothing is at most the number of code points that depend on a change
 -- counts_none     a counter that stays is what any group may leave
-use Rattle.std.proofs.Common.{ℕ, List, [], Result, Ok, Err, refl, sym, arith}
-use Rattle.std.proofs.lemmas.Bool.{true≢false}
+use Rattle.std.proofs.Common.{ℕ, List, [], Result, Ok, Err, refl, sym, arith, true≢false}
 use Rattle.ucd_facts.specs.Facts.{Facts}
 use Rattle.release_rows.specs.FileItems.{FileItem}
 use Rattle.record_turns.specs.Turned.{CountsWithin}

@@ -1,5 +1,4 @@
 -- What is derived of the facts of a release, now and next.
---
 -- AreOf F facts R m A        the facts are F; all code points have a record over F, R is these records, and A what is kept of what the
 --                            code points ask, by the mentions m
 -- IsNow F d                  what the derivation has now is that of the facts F

@@ -1,5 +1,4 @@
 -- Groups of operations: what the files are after them, or the rule that refuses the group.
---
 -- group_limit                  the greatest number of operations in a group
 -- files_facts files            the facts of the rows of these files
 -- then_ops n result more       what comes behind an operation of this number; or the rule that it breaks, with its number

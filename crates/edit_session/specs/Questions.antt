@@ -18,8 +18,8 @@ use Rattle.range_table.specs.Values.{SameValues}
 use Rattle.ucd_facts.specs.Facts.{Facts}
 use Rattle.ucd_model.specs.Sameness.{is_in}
 use Rattle.ucd_facts.specs.Uniform.{IsPlain}
-use Rattle.ucd_facts.specs.declared.query.Query.{Query}
 use Rattle.ucd_facts.specs.Answers.{is_asked}
+use Rattle.ucd_facts.specs.declared.query.Query.{Query}
 use Rattle.mention_index.specs.Reached.{about}
 use Rattle.query_laws.specs.Questions.{asked}
 use Rattle.query_laws.specs.Turns.{SameQueries}

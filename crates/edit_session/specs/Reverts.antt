@@ -1,5 +1,4 @@
 -- Groups with a way back, and ways that are gone back.
---
 -- IsValidWayBack patch files   the patch is a way back from the files, and the rows to which it leads are valid
 -- Keeps patch after before     the patch leads from the files after a group back to those before it, and is such a way
 -- first_of result              the first of two answers; or why there is none
@@ -8,9 +7,8 @@
 use Rattle.std.specs.Prelude.{◌≡◌, List, None, Result, Ok, Err}
 use Rattle.ucd_points.specs.declared.memory.Memory.{Memory}
 use Rattle.ucd_model.specs.Validity.{first_broken}
-use Rattle.release_rows.specs.FileItems.{FileItem}
 use Rattle.release_rows.specs.Patches.{IsWayBack, LeadsBack, SpliceItems, back}
-use Rattle.release_rows.specs.Releases.{ReleaseItems}
+use Rattle.release_rows.specs.Releases.{ReleaseItems, FileItem}
 use Rattle.edit_session.specs.Groups.{changed, files_facts}
 use Rattle.edit_session.specs.declared.accepted.Accepted.{Accepted}
 

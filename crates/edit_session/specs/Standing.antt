@@ -1,5 +1,4 @@
 -- What a bench keeps.
---
 -- IsBench release d    nothing is prepared in the release, and what is derived is that of the facts of its rows, now and next
 use Rattle.release_rows.specs.Releases.{ReleaseItems}
 use Rattle.edit_session.specs.Benches.{HasNothingPrepared, bench_facts}

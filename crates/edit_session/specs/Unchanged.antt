@@ -1,5 +1,4 @@
 -- Code points that a group is not answered with.
---
 -- unchanged_same   a code point that is not among those whose records differ has the same record before and after
 use Rattle.std.proofs.Common.{◌≡◌, ℕ, ◌<◌, false, not, sym, ◌∙◌}
 use Rattle.std.proofs.lemmas.Bool.{not-false}

@@ -9,7 +9,6 @@ use Rattle.run_endings.specs.declared.stop.Stop.{Stop}
 use Rattle.run_endings.specs.declared.stop.Stop.TheVariants.{Refused, ReadFailed, Memory}
 use Rattle.run_inputs.specs.CutProofs.{cut_folder}
 use Rattle.run_inputs.specs.Held.{source_held}
-use Rattle.run_inputs.specs.Judging.{ToldAs}
 use Rattle.run_inputs.specs.Paths.{sources_in}
 use Rattle.run_inputs.specs.Refusals.{folder_verdict}
 use Rattle.ending_tests.specs.Checker.{Check, checker, judged, valid_ending}
@@ -34,11 +33,6 @@ module _ (tells : Bool) (holds : Contents) (check : Check) (items : Seen) (read 
   refused (Refused line) h = (read.0, read.1, sym same ∙ h)
   refused (ReadFailed line) h = tt
   refused Memory h = tt
-
-pub stops_as : {A B : Type 0} (view : A → B) (check : Check) (verdict : Result B (List ℕ)) (stop : Stop) → ToldAs view (Err stop) verdict → PlansAs (Err stop) (judged check verdict)
-stops_as view check verdict (Refused line) told = ap (judged check) told
-stops_as view check verdict (ReadFailed line) told = absurd told
-stops_as view check verdict Memory told = tt
 
 -- ---- the path that is written
 

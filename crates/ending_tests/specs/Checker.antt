@@ -1,5 +1,4 @@
 -- A program that judges the source files of a folder, and writes one file: what a second program needs to say.
---
 -- Check                    the folder that is judged, and the path that is written
 -- check_of folder output   these two
 -- form words               `DATA OUT`; None for all other words

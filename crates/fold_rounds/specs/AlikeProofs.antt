@@ -4,17 +4,16 @@
 -- folded_covered   where the members of a list are alike, each folding gives the same folded list
 -- round_covered    where those of its NFKC are, each folding gives the same list after a round
 -- covered_both     what two flags together cover, each of them covers
-use Rattle.std.proofs.Common.{◌≡◌, ℕ, Bool, true, ◌&&◌, List, [], ◌∷◌, ◌++◌, Some, refl, sym, ap, ◌∙◌, inl, inr}
-use Rattle.std.specs.Option.{option_and_then}
+use Rattle.std.proofs.Common.{◌≡◌, ℕ, Bool, true, ◌&&◌, List, [], ◌∷◌, ◌++◌, Some, refl, sym, ap, ◌∙◌, inl, inr, option_and_then}
 use Rattle.std.proofs.lemmas.Bool.{eqb-true, and_parts}
 use Rattle.std.proofs.lemmas.Slice.Eq.{bytes_eq-Decides}
 use Rattle.ucd_model.specs.Casing.{fold, folded}
 use Rattle.ucd_facts.specs.Facts.{Facts, image_points}
+use Rattle.ucd_facts.specs.declared.image.Image.{Image}
+use Rattle.ucd_facts.specs.declared.image.Image.TheVariants.{Same, To}
 use Rattle.ucd_model.specs.FoldRounds.{drop_ignorable, short, short_nfkc, short_fold, round}
 use Rattle.ucd_facts.specs.declared.folding.Folding.{Folding}
 use Rattle.ucd_facts.specs.declared.folding.Folding.TheVariants.{Full, Simple}
-use Rattle.ucd_facts.specs.declared.image.Image.{Image}
-use Rattle.ucd_facts.specs.declared.image.Image.TheVariants.{Same, To}
 use Rattle.fold_rounds.specs.Steps.{folded_form, is_one, is_alike, are_alike, IsCovered}
 
 one_image : (c : ℕ) (i : Image) (x : ℕ) → is_one c i x ≡ true → image_points c i ≡ x ∷ []

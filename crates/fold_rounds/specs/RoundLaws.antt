@@ -1,7 +1,5 @@
 -- The laws of the folding rounds, by the full or the simple folding. The Unicode Standard, section 3.13, toNFKC_Casefold.
---
 -- IsFixed folding F c i s   s is what i rounds from c alone give, i is at most 7, and one more round leaves s as it is
---
 -- FixedIsFound      such a list is the one that is found, whether or not fewer rounds reach it
 -- FoundIsFixed      and no other list is found
 use Rattle.std.specs.Prelude.{◌≡◌, ℕ, ◌<◌, List, [], ◌∷◌, Some}

@@ -13,20 +13,18 @@
 -- FoundBy folding lists r      r is the list that `lists` has for each folding that r covers; None if it has none for `folding`
 -- FoldsAs folding F c r        r is the image of c by each folding that r covers, or V5 in its place, if there is none by
 --                              `folding`; no claim if memory ran out
-use Rattle.std.specs.Prelude.{◌≡◌, ℕ, Bool, true, ◌&&◌, ◌==◌, not, List, [], ◌∷◌, Option, Some, None, Result, Ok, Err, ◌⊎◌}
+use Rattle.std.specs.Prelude.{◌≡◌, ℕ, Bool, true, ◌&&◌, ◌==◌, not, List, [], ◌∷◌, Option, Some, None, Result, Ok, Err, ◌⊎◌, option_and_then, bytes_eq}
 use Rattle.std.specs.List.{list_all, list_any}
-use Rattle.std.specs.Option.{option_and_then}
-use Rattle.std.specs.Str.{bytes_eq}
 use Rattle.ucd_facts.specs.Composites.{is_canonical}
 use Rattle.ucd_facts.specs.Facts.{Facts}
+use Rattle.ucd_facts.specs.declared.image.Image.{Image}
+use Rattle.ucd_facts.specs.declared.image.Image.TheVariants.{Same, To}
 use Rattle.ucd_facts.specs.Expansion.{FormAnswers}
 use Rattle.ucd_model.specs.FoldRounds.{short_nfkc, short_fold, casefold_image}
 use Rattle.ucd_facts.specs.Predicates.{default_ignorable}
 use Rattle.ucd_facts.specs.Unmapped.{is_same}
 use Rattle.ucd_facts.specs.declared.folding.Folding.{Folding}
 use Rattle.ucd_facts.specs.declared.form.FormStop.{FormStop}
-use Rattle.ucd_facts.specs.declared.image.Image.{Image}
-use Rattle.ucd_facts.specs.declared.image.Image.TheVariants.{Same, To}
 use Rattle.fold_rounds.specs.declared.casefold.Folded.{Folded}
 use Rattle.fold_rounds.specs.declared.rounds.Found.{Found}
 

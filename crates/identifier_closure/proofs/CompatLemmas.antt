@@ -1,16 +1,16 @@
 -- Expansions without compatibility mappings.
-use Rattle.std.proofs.Common.{◌≡◌, ℕ, zero, suc, Bool, true, false, ◌||◌, List, [], ◌∷◌, ◌++◌, Option, Some, Ok, if◌then◌else◌, refl, sym, ap, ◌∙◌, subst}
+use Rattle.std.proofs.Common.{◌≡◌, ℕ, zero, suc, Bool, true, false, List, [], ◌∷◌, ◌++◌, Option, Some, Ok, if◌then◌else◌, refl, sym, ap, ◌∙◌, subst}
 use Rattle.std.specs.List.{AllByRecursion as Each, list_any}
 use Rattle.std.proofs.lemmas.Option.{same_Some, none-some}
 use Rattle.std.proofs.lemmas.Bool.{or_parts}
-use Rattle.ucd_facts.specs.Expansion.{counts, counted, joined, alone_or_joined, expand, full, judged, expansion}
+use Rattle.ucd_facts.specs.FactsLemmas.{judged_some}
+use Rattle.ucd_facts.specs.Expansion.{counts, counted, joined, alone_or_joined, expand, full, judged, expansion, is_compat}
 use Rattle.ucd_facts.specs.Facts.{Facts}
 use Rattle.ucd_facts.specs.declared.decomposition.Kind.{Kind}
 use Rattle.ucd_facts.specs.declared.decomposition.Kind.TheVariants.{Compat}
 use Rattle.decomposition.specs.ExpansionProofs.{both_some}
-use Rattle.normalisation.specs.ExpandedLemmas.{Each-front, Each-back, judged_some}
+use Rattle.normalisation.specs.ExpandedLemmas.{Each-front, Each-back}
 use Rattle.identifier_closure.specs.PointForms.{ExpandTo}
-use Rattle.ucd_facts.specs.Expansion.{is_compat}
 use Rattle.identifier_closure.proofs.FormLemmas.{both_expanded}
 
 -- ---- mappings of one kind or the other

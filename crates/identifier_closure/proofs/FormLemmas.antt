@@ -1,18 +1,15 @@
 -- The forms of a code point alone, from its expansions.
-use Rattle.std.proofs.Common.{◌≡◌, ◌≢◌, ℕ, Bool, true, false, cond, ◌||◌, nat_lt, List, [], ◌∷◌, length, Option, Some, None, unwrap_or, Ok, Err, if◌then◌else◌, refl, sym, ap, ◌∙◌, ◌⊎◌, inl, inr}
-use Rattle.std.specs.Option.{option_map}
-use Rattle.std.proofs.lemmas.List.{append-nil}
+use Rattle.std.proofs.Common.{◌≡◌, ◌≢◌, ℕ, Bool, true, false, cond, ◌||◌, nat_lt, List, [], ◌∷◌, length, Option, Some, None, unwrap_or, Ok, Err, if◌then◌else◌, refl, sym, ap, ◌∙◌, ◌⊎◌, inl, inr, option_map, append-nil}
 use Rattle.ucd_model.specs.CanonicalOrder.{class_of, order}
 use Rattle.ucd_facts.specs.Composites.{pair_of}
 use Rattle.ucd_model.specs.Composition.{compose}
 use Rattle.ucd_facts.specs.Expansion.{full, judged, expansion}
 use Rattle.ucd_facts.specs.Facts.{Facts}
-use Rattle.ucd_model.specs.Forms.{appended, in_order, composed, decomposed}
+use Rattle.ucd_model.specs.Forms.{appended, in_order, composed, decomposed, nfd as form_d}
 use Rattle.ucd_model.specs.Validity.{is_none, is_long}
 use Rattle.ucd_facts.specs.declared.form.Bad.{Bad as Rule}
 use Rattle.ucd_facts.specs.declared.form.Bad.TheVariants.{V2, V3}
 use Rattle.ucd_model.specs.Casing.{lowers, uppers, titles, folds, casemaps, where_form}
-use Rattle.ucd_model.specs.Forms.{nfd as form_d}
 use Rattle.case_derivation.specs.declared.changes.Changes.{Changes}
 use Rattle.identifier_closure.specs.PointForms.{expansion_rule, AreChanges, HaveForms, TellForms, composed_form, ExpandTo}
 

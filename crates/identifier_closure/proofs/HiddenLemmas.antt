@@ -8,10 +8,10 @@ use Rattle.ucd_facts.specs.Composites.{is_canonical, pair_of, primary_of}
 use Rattle.ucd_model.specs.Composition.{Split, compose, compose_onto, composed_with, is_open, last_starter, where_open, with_composite, with_point}
 use Rattle.ucd_facts.specs.Expansion.{counts}
 use Rattle.ucd_facts.specs.Facts.{Facts}
-use Rattle.ucd_model.specs.Forms.{composed, expansions, in_order, nfc}
-use Rattle.ucd_model.specs.Validity.{composite_of, is_other}
 use Rattle.ucd_facts.specs.declared.decomposition.Kind.{Kind}
 use Rattle.ucd_facts.specs.declared.decomposition.Kind.TheVariants.{Canonical}
+use Rattle.ucd_model.specs.Forms.{composed, expansions, in_order, nfc}
+use Rattle.ucd_model.specs.Validity.{composite_of, is_other}
 use Rattle.ucd_facts.specs.declared.form.Bad.{Bad as Rule}
 use Rattle.normalisation.specs.ExpandedLemmas.{Unmapped, Each-append, Each-back, Each-front, Each-order, expansions_full, ok_same}
 use Rattle.normalisation.specs.PairLemmas.{pair_joins}

@@ -1,11 +1,11 @@
 -- What the Normalisation Form KC of a point says of its identifiers.
 use Rattle.std.proofs.Common.{◌≡◌, ℕ, Bool, ◌&&◌, List, [], ◌∷◌, Ok, ap, ◌∙◌}
+use Rattle.ucd_points.specs.PlainProofs.{and_self}
 use Rattle.ucd_model.specs.Casing.{where_form}
 use Rattle.ucd_facts.specs.Facts.{Facts}
 use Rattle.ucd_model.specs.Forms.{nfkc}
 use Rattle.ucd_model.specs.Identifiers.{starts, continues, xid_start, xid_continue}
 use Rattle.ucd_facts.specs.Predicates.{id_start, id_continue}
-use Rattle.identifier_closure.specs.PlainProofs.{and_self}
 
 pub form_is : (F : ℕ → Facts) (c : ℕ) (p : List ℕ → Bool) (s : List ℕ) → nfkc F (c ∷ []) ≡ Ok s → where_form p (nfkc F (c ∷ [])) ≡ p s
 form_is F c p s e = ap (where_form p) e

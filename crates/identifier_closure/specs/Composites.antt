@@ -1,5 +1,4 @@
 -- Primary composites that a lesser one hides, by facts that are shown.
---
 -- hidden_of F c G       of the point c with the facts G: a lesser primary composite has the same mapping
 use Rattle.std.specs.Prelude.{ℕ, Bool, ◌&&◌}
 use Rattle.ucd_facts.specs.Composites.{primary_of}

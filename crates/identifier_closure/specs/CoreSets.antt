@@ -1,5 +1,4 @@
 -- The core properties of a code point, from its facts and from what its forms tell.
---
 -- core_given c G told p    whether c with the facts G has the property p, where `told` has what follows from its forms
 -- HasBelow set at p        of the properties at places below `at`, the set has those that pass p, and no others
 use Rattle.std.specs.Prelude.{◌≡◌, ℕ, Bool, ◌&&◌, nat_lt}

@@ -1,5 +1,4 @@
 -- Answers that are a record, or the first rule that a code point breaks.
---
 -- RecordAnswers r value    r is the record, or in its place the rule; no claim if memory ran out
 -- CasefoldsAnswer F c r    r is the images of c by the full and by the simple folding, or in their place V5, where one of them is
 --                          not there; no claim if memory ran out

@@ -1,22 +1,23 @@
 -- Code points without a mapping.
---
 -- Unmapped F c         c has no mapping that counts, whether compatibility mappings count or not
 -- kind_forms           where the kind of c is Plain, its NFD, NFC and NFKC are c alone
 -- kind_rule            where it is, the expansions of c break no rule
 -- folded_if            where image_or_rule gives an image, there is a list
 -- plain_core c G p     whether c with the facts G and no mapping has the core property p
 -- plain_record c G s   its record, where s says whether it is the second member of a primary composite's mapping
--- and_self             b, b again, and true together are b
 -- plain_derived        the record that is derived of a point without a mapping is plain_record
-use Rattle.std.proofs.Common.{◌≡◌, ℕ, Bool, true, false, ◌&&◌, ◌||◌, not, ◌==◌, List, [], ◌∷◌, ◌++◌, Option, Some, None, Ok, if◌then◌else◌, refl, ap, ◌∙◌}
+use Rattle.std.proofs.Common.{◌≡◌, ℕ, Bool, true, false, ◌&&◌, ◌||◌, not, ◌==◌, List, [], ◌∷◌, ◌++◌, Option, Some, None, Ok, if◌then◌else◌, refl, ap, ◌∙◌, bytes_eq}
 use Rattle.std.specs.List.{list_any}
-use Rattle.std.specs.Str.{bytes_eq}
 use Rattle.std.proofs.lemmas.Slice.Eq.{bytes_eq-Decides}
+use Rattle.ucd_points.specs.PlainProofs.{either, none_of, and_self}
 use Rattle.ucd_model.specs.CanonicalOrder.{class_of, order}
 use Rattle.ucd_model.specs.Casing.{folded, lowers, uppers, titles, folds, casemaps, changes_when, where_form}
 use Rattle.ucd_facts.specs.Composites.{primary, is_canonical, first_has_class_zero, second_of}
 use Rattle.ucd_facts.specs.Expansion.{counts, counted, alone_or_joined, expand, full}
 use Rattle.ucd_facts.specs.Facts.{Facts, image_points, is_plain}
+use Rattle.ucd_facts.specs.declared.decomposition.Kind.TheVariants.{Plain}
+use Rattle.ucd_facts.specs.declared.image.Image.{Image}
+use Rattle.ucd_facts.specs.declared.image.Image.TheVariants.{Same, To}
 use Rattle.ucd_model.specs.FoldRounds.{casefold, casefold_image, image_or_rule, image_or_same}
 use Rattle.ucd_model.specs.Forms.{nfd, nfkc, composed, decomposed}
 use Rattle.ucd_model.specs.Identifiers.{starts, continues}
@@ -25,13 +26,10 @@ use Rattle.ucd_model.specs.QuickChecks.{excludes_mapping, full_exclusion, quick_
 use Rattle.ucd_model.specs.Records.{Record, core_at, changes_image, record_at, derived}
 use Rattle.ucd_facts.specs.Uniform.{IsPlain}
 use Rattle.ucd_model.specs.Validity.{lacks_row, lacks_a_row, mappings, is_none, is_unfolded, is_hidden, is_other, composite_of}
-use Rattle.ucd_facts.specs.declared.decomposition.Kind.TheVariants.{Plain}
 use Rattle.ucd_facts.specs.declared.folding.Folding.{Folding}
 use Rattle.ucd_facts.specs.declared.folding.Folding.TheVariants.{Full, Simple}
 use Rattle.ucd_facts.specs.declared.form.Form.TheVariants.{Nfd, Nfc, Nfkd, Nfkc}
 use Rattle.ucd_facts.specs.declared.form.Quick.TheVariants.{Yes, No, Maybe}
-use Rattle.ucd_facts.specs.declared.image.Image.{Image}
-use Rattle.ucd_facts.specs.declared.image.Image.TheVariants.{Same, To}
 use Rattle.ucd_facts.specs.declared.property.Core.{Core}
 use Rattle.ucd_facts.specs.declared.property.Core.TheVariants.{ChangesWhenLowercased, ChangesWhenUppercased, ChangesWhenTitlecased, ChangesWhenCasefolded, ChangesWhenCasemapped, XidStart, XidContinue}
 use Rattle.fold_rounds.specs.RoundProofs.{alone_image}
@@ -42,10 +40,6 @@ use Rattle.identifier_closure.specs.RuleProofs.{by_none}
 
 alone_list : (c : ℕ) → bytes_eq (c ∷ []) (c ∷ []) ≡ true
 alone_list c = (bytes_eq-Decides (c ∷ []) (c ∷ [])).1 refl
-
-either : {A : Type 0} (b : Bool) (x : A) → (if b then x else x) ≡ x
-either true x = refl
-either false x = refl
 
 abbrev pub Unmapped : (ℕ → Facts) → ℕ → Type 0
 Unmapped F c = (compat : Bool) → counted F compat c ≡ []
@@ -93,11 +87,6 @@ lacks_none F c p =
     rw (p.mapping, p.simple_upper, p.simple_lower, p.simple_title, p.simple_fold, p.upper, p.lower, p.title, p.fold) refl in
     shown ∙ rw (itself F c) refl
 
-none_of : (a b c : Bool) → (a && (b && (false && c))) ≡ false
-none_of true true c = refl
-none_of true false c = refl
-none_of false b c = refl
-
 not_hidden : (F : ℕ → Facts) (c : ℕ) → IsPlain c (F c) → is_hidden F c ≡ false
 not_hidden F c p =
     let none : primary F c ≡ false =
@@ -142,10 +131,6 @@ plain_record c G second = record {
   simple_casefold = if default_ignorable c G then To [] else Same;
   changes_casefold = default_ignorable c G;
 }
-
-pub and_self : (b : Bool) → (b && (b && true)) ≡ b
-and_self true = refl
-and_self false = refl
 
 or_none : (a b : Bool) → (a || (b && false)) ≡ a
 or_none true b = refl

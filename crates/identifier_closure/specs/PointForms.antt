@@ -1,5 +1,4 @@
 -- The forms of a code point alone, as far as its record follows from them.
---
 -- expansion_rule F c           the first rule that the expansions of c break: V2, then V3; None where they break none
 -- HaveForms F c nfd nfc nfkc   the forms of c alone are these lists
 -- AreChanges F s t             t says which mappings change the list s

@@ -1,5 +1,4 @@
 -- The first rule that a point breaks, step by step.
---
 -- by_missing_row   where a mapping of c has a member without a row, c has V1 in place of its record
 -- by_expansion     where it has not, and the expansions of c break a rule, c has that one
 -- by_composite     where neither is so, and a lesser composite has the mapping of c, c has V4

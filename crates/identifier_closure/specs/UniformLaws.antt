@@ -1,5 +1,4 @@
 -- Code points without a mapping whose other facts are the same.
---
 -- UniformDerived     their records are the same, where both are format characters that are shown or neither is
 use Rattle.std.specs.Prelude.{◌≡◌, ℕ}
 use Rattle.ucd_facts.specs.Facts.{Facts}

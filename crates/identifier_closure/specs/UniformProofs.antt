@@ -1,14 +1,13 @@
 -- Proof that uniform code points have the same record.
---
 -- uniform_derived   the law of the same name
 use Rattle.std.proofs.Common.{◌≡◌, ℕ, Bool, [], Ok, if◌then◌else◌, refl, sym, ap, ◌∙◌}
 use Rattle.ucd_facts.specs.Composites.{is_canonical, second_of}
 use Rattle.ucd_facts.specs.Facts.{Facts, is_plain}
+use Rattle.ucd_facts.specs.declared.image.Image.TheVariants.{Same, To}
 use Rattle.ucd_facts.specs.Predicates.{default_ignorable, is_visible_format}
 use Rattle.ucd_model.specs.Records.{Record}
 use Rattle.ucd_facts.specs.Uniform.{Alike}
 use Rattle.ucd_facts.specs.declared.form.Quick.TheVariants.{Yes, No, Maybe}
-use Rattle.ucd_facts.specs.declared.image.Image.TheVariants.{Same, To}
 use Rattle.ucd_facts.specs.declared.property.Core.{Core}
 use Rattle.ucd_facts.specs.declared.property.Core.TheVariants.{CaseIgnorable, ChangesWhenLowercased, ChangesWhenUppercased, ChangesWhenTitlecased, ChangesWhenCasefolded, ChangesWhenCasemapped, DefaultIgnorableCodePoint, GraphemeLink}
 use Rattle.identifier_closure.specs.PlainProofs.{plain_core, plain_record, plain_derived}

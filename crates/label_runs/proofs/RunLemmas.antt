@@ -1,7 +1,5 @@
 -- A run grows, ends, and the next one begins.
-use Rattle.std.proofs.Common.{◌≡◌, ℕ, ◌+◌, ◌-◌, ◌<◌, false, List, [], ◌∷◌, ◌++◌, Some, None, is_some, unwrap_or, sym, ap, ◌∙◌, arith, inl, inr}
-use Rattle.std.specs.List.{flat_map}
-use Rattle.std.proofs.lemmas.List.{append-nil}
+use Rattle.std.proofs.Common.{◌≡◌, ℕ, ◌+◌, ◌-◌, ◌<◌, false, List, [], ◌∷◌, ◌++◌, Some, None, is_some, unwrap_or, sym, ap, ◌∙◌, arith, inl, inr, flat_map, append-nil}
 use Rattle.std.proofs.lemmas.Bool.{cases_lt}
 use Rattle.std.proofs.lemmas.Grind.{flat_map-append}
 use Rattle.ucd_model.specs.Labels.{Label, LabelSpan, same_label}

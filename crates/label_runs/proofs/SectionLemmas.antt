@@ -1,7 +1,5 @@
 -- The end of a section.
-use Rattle.std.proofs.Common.{◌≡◌, ℕ, ◌+◌, ◌<◌, List, [], ◌∷◌, ◌++◌, append_assoc, refl, sym, ap, ◌∙◌, arith}
-use Rattle.std.specs.Prelude.{codes}
-use Rattle.std.specs.Fmt.{decimal}
+use Rattle.std.proofs.Common.{◌≡◌, ℕ, ◌+◌, ◌<◌, List, [], ◌∷◌, ◌++◌, append_assoc, refl, sym, ap, ◌∙◌, arith, codes, decimal}
 use Rattle.ucd_model.specs.Labels.{Label}
 use Rattle.ucd_model.specs.LabelLemmas.{labelled_before}
 use Rattle.ucd_model.specs.DerivedText.{section_text, line_end}

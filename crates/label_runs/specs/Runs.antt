@@ -1,5 +1,4 @@
 -- A section as far as it is written: the lines of the spans that have ended, and the run of one label that is open.
---
 -- lines_before n f m        the lines of the spans that begin before m
 -- run_line first end label  the line of a run from `first` to before `end`; none where it has no label
 -- run_length first end label   how many code points it lists
@@ -7,9 +6,8 @@
 -- IsOpen n f first end label   so it is from `first` to before `end`, and the number before `first` has another label; only
 --                           at the beginning is the run empty, and then it has no label
 -- text_shown t              the label with the text t
-use Rattle.std.specs.Prelude.{◌≡◌, ◌≤◌, ◌<◌, ◌+◌, ◌-◌, ℕ, List, [], Option, Some, None, false}
+use Rattle.std.specs.Prelude.{◌≡◌, ◌≤◌, ◌<◌, ◌+◌, ◌-◌, ℕ, List, [], Option, Some, None, false, flat_map}
 use Rattle.std.specs.Borrow.{Bor}
-use Rattle.std.specs.List.{flat_map}
 use Rattle.ucd_model.specs.Labels.{Label, same_label}
 use Rattle.ucd_model.specs.LabelLemmas.{spans_before}
 use Rattle.ucd_model.specs.DerivedText.{span_line}

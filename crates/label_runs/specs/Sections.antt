@@ -1,5 +1,4 @@
 -- A section as far as it is written. Its labels are those of the numbers below n.
---
 -- section_head name    the line `# NAME`
 -- Progress             how far a section is written: the numbers from `first` to before `end` are a run of one label whose line is
 --                      still to come, and the lines before it list `total` numbers

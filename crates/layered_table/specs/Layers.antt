@@ -1,5 +1,4 @@
 -- Words for spans of code points, one layer over another.
---
 -- covered c word layer      the word of a layer that covers c; else the word that is there
 -- word_at layers base c     the word of the last layer that covers c; base where none does
 -- puts word c layer         the layer has this word, and covers c

@@ -1,13 +1,12 @@
 -- The code points that questions are about.
---
 -- asked_about   of each question there is the one that it is about
 -- about_asked   and each of them is the one that some question is about
 use Rattle.std.proofs.Common.{◌≡◌, ℕ, true, ◌==◌, List, [], ◌∷◌, map, refl, sym, ap, inl, inr}
 use Rattle.std.proofs.lemmas.Bool.{true≢false, eq-eqb, eqb-true, or_cases, or_left, or_right}
 use Rattle.ucd_model.specs.Sameness.{is_in}
-use Rattle.ucd_facts.specs.declared.query.Query.{Query}
 use Rattle.ucd_facts.specs.AnswerProofs.{queries_are_told}
 use Rattle.ucd_facts.specs.Answers.{is_asked, same_query}
+use Rattle.ucd_facts.specs.declared.query.Query.{Query}
 use Rattle.mention_index.specs.Reached.{about}
 
 pub asked_about : (Q : List Query) (q : Query) → is_asked Q q ≡ true → is_in (map about Q) (about q) ≡ true

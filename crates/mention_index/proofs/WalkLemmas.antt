@@ -1,5 +1,4 @@
 -- How much is left of a walk, and how it falls.
---
 -- missing_less   one number less does not pass, where one more passes
 -- left_less      so less is left, however many are pending
 use Rattle.std.proofs.Common.{◌≡◌, ℕ, zero, suc, ◌+◌, ◌^◌, ◌<◌, ◌≤◌, Bool, true, false, cond, ◌||◌, ◌==◌, List, length, refl, sym, ap, ◌∙◌, arith, inl, inr}

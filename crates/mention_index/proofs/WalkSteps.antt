@@ -1,5 +1,4 @@
 -- The steps of a walk.
---
 -- begins   so it stands before the first step
 -- goes     and after one more
 -- ends     and if nothing is pending any more, what was walked is closed, and holds the points that the walk began with

@@ -1,5 +1,4 @@
 -- What a list of mentions has, and what was put for one.
---
 -- puts listing x c   the step from x to c was put
 -- leads m x c        there is a step from x to c
 -- is_walked m x      one went on from x

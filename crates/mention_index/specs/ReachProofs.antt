@@ -1,9 +1,7 @@
 -- A derivation asks about code points alone that are reached from its own.
---
 -- asked_are_reached   the law of the same name
-use Rattle.std.proofs.Common.{◌≡◌, ap, ℕ, zero, suc, Bool, true, false, cond, not, nat_le, ◌==◌, length, map, List, [], ◌∷◌, ◌++◌, Option, Some, None, Result, Ok, Err, refl, sym, subst, inl, inr}
+use Rattle.std.proofs.Common.{◌≡◌, ap, ℕ, zero, suc, Bool, true, false, cond, not, nat_le, ◌==◌, length, map, List, [], ◌∷◌, ◌++◌, Option, Some, None, Result, Ok, Err, refl, sym, subst, inl, inr, option_and_then}
 use Rattle.std.specs.List.{flat_map, range_with_len}
-use Rattle.std.specs.Option.{option_and_then}
 use Rattle.std.proofs.lemmas.Bool.{true≢false, or_cases, or_left, or_right, eq-eqb}
 use Rattle.ucd_model.specs.CanonicalOrder.{class_of}
 use Rattle.ucd_model.specs.Casing.{folded, fold_of}
@@ -21,9 +19,9 @@ use Rattle.ucd_model.specs.Sameness.{is_in}
 use Rattle.ucd_facts.specs.declared.folding.Folding.{Folding}
 use Rattle.ucd_facts.specs.declared.folding.Folding.TheVariants.{Full, Simple}
 use Rattle.ucd_facts.specs.declared.form.Bad.{Bad as Rule}
-use Rattle.ucd_facts.specs.declared.query.Query.{Query}
 use Rattle.ucd_facts.specs.AnswerProofs.{queries_are_told}
 use Rattle.ucd_facts.specs.Answers.{is_asked, same_query, Each}
+use Rattle.ucd_facts.specs.declared.query.Query.{Query}
 use Rattle.query_laws.specs.ExpansionProofs.{expansions_leaves}
 use Rattle.query_laws.specs.FormProofs.{Each-order}
 use Rattle.query_laws.specs.ListProofs.{Each-both, Each-filter, Each-if, Each-left, Each-right, every}

@@ -5,17 +5,15 @@
 -- about q            the code point that q is about: x of Row(x) and Second(x), and s of Pair(s, y)
 -- Reached F c x      from c one comes to x by steps from a code point to a member of one of its mappings, and from the first member of
 --                    a primary composite's mapping to the composite
---
 -- AskedAreReached    a derivation asks about code points alone that are reached from its own
-use Rattle.std.specs.Prelude.{◌≡◌, ℕ, true, List}
-use Rattle.std.specs.List.{flat_map}
+use Rattle.std.specs.Prelude.{◌≡◌, ℕ, true, List, flat_map}
 use Rattle.ucd_facts.specs.CompositeLaws.{Composes}
 use Rattle.ucd_facts.specs.Facts.{Facts}
 use Rattle.ucd_model.specs.Sameness.{is_in}
 use Rattle.ucd_model.specs.Validity.{mappings}
-use Rattle.ucd_facts.specs.declared.query.Query.{Query}
 use Rattle.ucd_facts.specs.declared.query.Query.TheVariants.{Row, Pair, Second}
 use Rattle.ucd_facts.specs.Answers.{is_asked}
+use Rattle.ucd_facts.specs.declared.query.Query.{Query}
 use Rattle.query_laws.specs.Questions.{asked}
 
 abbrev pub members_of : ℕ → Facts → List ℕ

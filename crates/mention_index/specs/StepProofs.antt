@@ -1,5 +1,4 @@
 -- From each code point that is reached from a code point one comes to it by the steps.
---
 -- reached_lead        where there are steps to each code point from those that it mentions, one comes to a code point from each that is
 --                     reached from it
 -- asked_lead          the law of the same name
@@ -9,10 +8,10 @@ use Rattle.std.proofs.Common.{◌≡◌, ℕ, ◌<◌, Bool, true, ◌==◌, Lis
 use Rattle.std.proofs.lemmas.Bool.{true≢false, cases_eq, cases_lt, or_cases, eqb-true}
 use Rattle.ucd_facts.specs.CompositeLaws.{Composes}
 use Rattle.ucd_facts.specs.Facts.{Facts, image_points}
-use Rattle.ucd_model.specs.Sameness.{is_in}
-use Rattle.ucd_facts.specs.Uniform.{IsPlain}
 use Rattle.ucd_facts.specs.declared.image.Image.{Image}
 use Rattle.ucd_facts.specs.declared.image.Image.TheVariants.{Same}
+use Rattle.ucd_model.specs.Sameness.{is_in}
+use Rattle.ucd_facts.specs.Uniform.{IsPlain}
 use Rattle.ucd_facts.specs.Answers.{Each}
 use Rattle.query_laws.specs.ListProofs.{Each-both}
 use Rattle.mention_index.specs.ReachProofs.{asked_are_reached}

@@ -11,13 +11,12 @@
 -- Leads step c x      one comes from x to c by such steps
 -- IsReached step Q c   one comes to c by them from a code point that one of the questions Q is about
 -- IsClosed step p     where x passes p, and there is a step from x to a code point, that passes p too
-use Rattle.std.specs.Prelude.{◌≡◌, ◌≢◌, ℕ, ◌+◌, ◌*◌, ◌<◌, Bool, true, List, [], ◌∷◌}
-use Rattle.std.specs.List.{flat_map}
+use Rattle.std.specs.Prelude.{◌≡◌, ◌≢◌, ℕ, ◌+◌, ◌*◌, ◌<◌, Bool, true, List, [], ◌∷◌, flat_map}
 use Rattle.ucd_facts.specs.CompositeLaws.{Composes}
 use Rattle.ucd_facts.specs.Facts.{Facts, image_points}
 use Rattle.ucd_model.specs.Sameness.{is_in}
-use Rattle.ucd_facts.specs.declared.query.Query.{Query}
 use Rattle.ucd_facts.specs.Answers.{is_asked}
+use Rattle.ucd_facts.specs.declared.query.Query.{Query}
 use Rattle.mention_index.specs.Reached.{about, members_of}
 
 abbrev pub key : ℕ → ℕ → ℕ

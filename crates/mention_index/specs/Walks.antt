@@ -1,5 +1,4 @@
 -- Walks over the steps.
---
 -- by_keys has x c    there is the step from x to c, whose key `has` tells
 -- ComesFrom step P c   one comes to c from one of the points P
 -- Going step W P walked pending reached   so it stands in a walk that began with the points P, where one had gone on from those that

@@ -1,5 +1,4 @@
 -- Cases that are put behind others.
---
 -- onto_case     a case, put to the cases before it
 use Rattle.std.proofs.Common.{◌≡◌, ◌||◌, List, [], ◌∷◌, ◌++◌, Result, Ok, Err, refl, sym, ap, append_assoc}
 use Rattle.norm_conformance.specs.Cases.{CaseFault, onto, with_case}

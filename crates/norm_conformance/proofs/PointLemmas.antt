@@ -1,5 +1,4 @@
 -- What is missed of code points.
---
 -- passed_over      of a code point that is not assigned or is listed nothing is missed
 -- plain_missed     of a code point without a mapping nothing is missed
 -- points_more      one more code point
@@ -7,11 +6,12 @@
 -- misses_with      what is missed of a file with a part 1
 -- misses_without   what is missed of a file without one
 -- none_put         nothing that is put
-use Rattle.std.proofs.Common.{◌≡◌, ◌⊎◌, inl, inr, ℕ, zero, suc, ◌+◌, Bool, true, false, ◌&&◌, not, ◌==◌, if◌then◌else◌, List, [], ◌∷◌, ◌++◌, refl, sym, ap, ◌∙◌, append-nil, arith}
+use Rattle.std.proofs.Common.{◌≡◌, ◌⊎◌, inl, inr, ℕ, ◌+◌, Bool, true, false, ◌&&◌, not, if◌then◌else◌, List, [], ◌∷◌, ◌++◌, refl, sym, ap, ◌∙◌, append-nil, arith}
 use Rattle.std.specs.List.{flat_map, range_with_len}
 use Rattle.std.proofs.lemmas.List.{flat_map_more}
 use Rattle.std.proofs.Math.Bool.{and-false}
 use Rattle.std.proofs.lemmas.Slice.Eq.{bytes_eq-Decides}
+use Rattle.ucd_points.specs.PlainProofs.{range_more}
 use Rattle.ucd_points.specs.Limits.{point_count}
 use Rattle.ucd_facts.specs.Facts.{Facts}
 use Rattle.ucd_facts.specs.declared.decomposition.Kind.TheVariants.{Plain}
@@ -47,13 +47,6 @@ pub plain_missed : (F : ℕ → Facts) (listed : ℕ → Bool) (c : ℕ) → (F 
 plain_missed F listed c plain = if_empty ((F c).assigned && not (listed c)) (missed_forms F c) (plain_none F c plain)
 
 -- ---- all code points
-
-range_more : (a n : ℕ) → range_with_len a (n + 1) ≡ range_with_len a n ++ (a + n) ∷ []
-range_more a zero = let same : a ≡ a + 0 = omega arith in ap (λ k. k ∷ []) same
-range_more a (suc n) =
-    let step : suc n + 1 ≡ suc (n + 1) = omega arith in
-    let same : (a + 1) + n ≡ a + suc n = omega arith in
-    ap (range_with_len a) step ∙ ap (λ zs. a ∷ zs) (range_more (a + 1) n ∙ ap (λ k. range_with_len (a + 1) n ++ k ∷ []) same)
 
 pub points_more : {X : Type 0} (f : ℕ → List X) (o xs zs : List X) (n c : ℕ) → xs ≡ o ++ flat_map f (range_with_len 0 n) → c ≡ n → zs ≡ xs ++ f c → zs ≡ o ++ flat_map f (range_with_len 0 (n + 1))
 points_more f o xs zs n c before same put =

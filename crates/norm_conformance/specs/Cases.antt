@@ -1,5 +1,4 @@
 -- The cases that NormalizationTest.txt holds, or the first fault.
---
 -- CaseFault                     the number of a line, and the rule that it breaks
 -- case_of n part columns        the case on line n with these columns
 -- with_part k result            with a line of part k before the lines: `@Part1` stands among them where k is 1

@@ -1,5 +1,4 @@
 -- Whether forms are as expected, as the code keeps it.
---
 -- AreKept F s d c kd kc check   it is told whether the forms D, C, KD and KC of s are these lists
 -- AreChecks F case check        it is told of each column of a case whether its forms are as expected
 -- kept_in check form            whether this form is as expected

@@ -1,9 +1,7 @@
 -- What the definitions give at small examples. The lines are those of NormalizationTest.txt, or have one thing changed.
---
 -- grave             the columns of 00C0
 -- on n part         the case of these columns on line n, in this part
-use Rattle.std.proofs.Common.{◌≡◌, ℕ, true, false, [], ◌∷◌, Ok, Err, codes, refl}
-use Rattle.std.specs.Prelude.{nat_lt}
+use Rattle.std.proofs.Common.{◌≡◌, ℕ, true, false, [], ◌∷◌, Ok, Err, codes, refl, nat_lt}
 use Rattle.ucd_points.specs.Fields.{fields, point_of}
 use Rattle.ucd_points.specs.Lines.{items_of}
 use Rattle.ucd_points.specs.MissingLines.{missing_rest}

@@ -1,5 +1,4 @@
 -- What NormalizationTest.txt holds, as a grammar, and its first fault. The head of that file; UAX #44, section 4.2.
---
 -- IsPart content k            the line is `@Part` and the digit k
 -- Spells field points         the words of the field are one to 64 code points, and these are the points
 -- HasFields content fs        the line is neither passed over nor begins with `@`, and these are its fields

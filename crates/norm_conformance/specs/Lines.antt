@@ -1,5 +1,4 @@
 -- What a line of NormalizationTest.txt says by itself. The head of that file; UAX #44, section 4.2.
---
 -- is_passed content        the line is blank, or a comment
 -- text_of content          what stands before the first `#`, without white space around it
 -- is_mark text             the text begins with `@`
@@ -12,9 +11,8 @@
 -- marked part              a line of this part; N3 where there is none
 -- tested columns           a case with these columns, or the rule in their place
 -- said content             what the line says, or the first rule that it breaks
-use Rattle.std.specs.Prelude.{ℕ, ◌-◌, Bool, true, false, List, [], ◌∷◌, take, drop, Option, Some, None, Result, Ok, Err, ◌==◌, codes, if◌then◌else◌}
+use Rattle.std.specs.Prelude.{ℕ, ◌-◌, Bool, true, false, List, [], ◌∷◌, take, drop, Option, Some, None, Result, Ok, Err, ◌==◌, codes, if◌then◌else◌, bytes_eq}
 use Rattle.std.specs.List.{before_first}
-use Rattle.std.specs.Str.{bytes_eq}
 use Rattle.ucd_points.specs.Fields.{fields, is_digit, is_hash, trim}
 use Rattle.ucd_points.specs.Lines.{is_comment}
 use Rattle.ucd_points.specs.declared.files.SourceFile.TheVariants.{PropList}

@@ -17,9 +17,8 @@
 -- misses_at F listed c           those forms, where c is assigned and not listed
 -- unlisted_misses F listed       invariant 2: the misses of all code points, ascending, by form
 -- misses F cases                 the misses of each case in order, and behind them, where the file has a part 1, those of invariant 2
-use Rattle.std.specs.Prelude.{ℕ, Bool, false, ◌&&◌, not, List, [], ◌∷◌, ◌++◌, Result, Ok, Err, ◌==◌, nat_lt, if◌then◌else◌}
+use Rattle.std.specs.Prelude.{ℕ, Bool, false, ◌&&◌, not, List, [], ◌∷◌, ◌++◌, Result, Ok, Err, ◌==◌, nat_lt, if◌then◌else◌, bytes_eq}
 use Rattle.std.specs.List.{flat_map, list_any, range_with_len}
-use Rattle.std.specs.Str.{bytes_eq}
 use Rattle.ucd_points.specs.Limits.{point_count}
 use Rattle.ucd_facts.specs.Facts.{Facts}
 use Rattle.ucd_facts.specs.declared.form.Bad.{Bad as Rule}

@@ -1,5 +1,4 @@
 -- Facts of valid rows.
---
 -- AreOfValidRows F    F is the facts of the rows of a release, and no code point breaks a rule of a valid release
 use Rattle.std.specs.Prelude.{◌≡◌, ℕ, None}
 use Rattle.ucd_facts.specs.Facts.{Facts, Sources, facts}

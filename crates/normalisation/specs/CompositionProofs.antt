@@ -1,5 +1,4 @@
 -- Proofs of the laws of composition.
---
 -- compose_onto-append      composing two joined lists is composing the first, and then the second behind it
 -- compose_push             so one more point is put behind what is composed before it
 -- no_last_starter          a list in which no point has class 0 has no last starter

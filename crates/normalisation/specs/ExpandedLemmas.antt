@@ -1,5 +1,4 @@
 -- What is expanded, and what expands to it.
---
 -- Unmapped F compat x     x has no mapping that counts
 -- ok_same                 two lists in Ok that are the same are the same list
 -- appended_ok             where two results appended are a list, both are lists, and that list is the two joined
@@ -8,18 +7,17 @@
 -- expansions_full         no member of the expansions of a list has a mapping that counts
 -- pair_expansion          the expansion of a composite that has one is that of its first member, and behind it the second member,
 --                         where that has no mapping that counts
-use Rattle.std.proofs.Common.{◌≡◌, ℕ, Bool, true, false, cond, ◌==◌, nat_lt, List, [], ◌∷◌, ◌++◌, length, Option, Some, None, Result, Ok, Err, refl, sym, ap, ◌∙◌, subst, arith}
+use Rattle.std.proofs.Common.{◌≡◌, ℕ, Bool, true, List, [], ◌∷◌, ◌++◌, Some, Result, Ok, Err, refl, sym, ap, ◌∙◌, subst, arith, append-nil}
 use Rattle.std.specs.List.{AllByRecursion as Each}
-use Rattle.std.proofs.lemmas.List.{append-nil}
 use Rattle.std.proofs.lemmas.List.Elements.{recursion_from_All}
 use Rattle.std.proofs.lemmas.Option.{same_Some}
+use Rattle.ucd_facts.specs.FactsLemmas.{judged_some}
 use Rattle.ucd_facts.specs.declared.form.Bad.{Bad as Rule}
-use Rattle.ucd_facts.specs.declared.form.Bad.TheVariants.{V3}
+use Rattle.ucd_facts.specs.Facts.{Facts}
 use Rattle.ucd_facts.specs.declared.decomposition.Kind.{Kind}
 use Rattle.ucd_facts.specs.declared.decomposition.Kind.TheVariants.{Canonical}
-use Rattle.ucd_facts.specs.Facts.{Facts}
 use Rattle.ucd_facts.specs.Composites.{is_canonical}
-use Rattle.ucd_facts.specs.Expansion.{counts, counted, both, alone_or_joined, expand, full, judged, expansion}
+use Rattle.ucd_facts.specs.Expansion.{counts, counted, both, alone_or_joined, expand, full, expansion}
 use Rattle.ucd_model.specs.Forms.{appended, expansions}
 pub use Rattle.ucd_model.specs.MemberProofs.{Each-append, Each-front, Each-back, Each-order}
 use Rattle.decomposition.specs.ExpansionProofs.{both_some, unmapped_is_alone, more_levels_give_the_same, expansions_are_full}
@@ -39,14 +37,6 @@ pub appended_ok : (a b : Result (List ℕ) Rule) (zs : List ℕ) → appended a 
 appended_ok (Ok xs) (Ok ys) zs e = (xs, ys, refl, refl, ok_same (xs ++ ys) zs e)
 appended_ok (Ok xs) (Err rule) zs e = cc
 appended_ok (Err rule) b zs e = cc
-
-judged_if : (t : Bool) (points p : List ℕ) → cond t (Err V3) (Ok points) ≡ Ok p → points ≡ p
-judged_if true points p e = cc
-judged_if false points p e = ok_same points p e
-
-pub judged_some : (r : Option (List ℕ)) (p : List ℕ) → judged r ≡ Ok p → r ≡ Some p
-judged_some (Some points) p e = ap (λ zs. Some zs) (judged_if (nat_lt 64 (length points)) points p e)
-judged_some None p e = cc
 
 -- ---- lists
 

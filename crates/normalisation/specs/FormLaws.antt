@@ -1,8 +1,6 @@
 -- The laws of the normalisation forms. UAX #15, section 1.2; The Unicode Standard, section 3.11.
---
 -- HasExpansion F compat c       c breaks neither V2 nor V3 for that kind of mapping
 -- HaveExpansions F compat       no code point breaks them; in a valid release this holds for both kinds
---
 -- NfdTwice, NfkdTwice           NFD of NFD, and NFKD of NFKD, is that list
 -- NfcTwice, NfkcTwice           so is NFC of NFC, and NFKC of NFKC, where each code point has its expansion
 -- NfdOfNfc, NfkdOfNfkc          the NFD of the NFC of a list is its NFD, and the NFKD of its NFKC is its NFKD, where each code
@@ -11,13 +9,12 @@
 --                               its expansion
 -- FormsAreTogether              the four forms of a list are together exactly where each of them is there
 -- PlainForms                    each form of a code point without a mapping is that code point
-use Rattle.std.specs.Prelude.{◌≡◌, ℕ, ◌<◌, Bool, true, false, List, [], ◌∷◌, Ok, ◌↔◌}
-use Rattle.std.specs.List.{All}
+use Rattle.std.specs.Prelude.{◌≡◌, ℕ, ◌<◌, Bool, true, false, List, [], ◌∷◌, Ok, ◌↔◌, All}
 use Rattle.ucd_points.specs.Limits.{point_count}
 use Rattle.ucd_facts.specs.Facts.{Facts}
+use Rattle.ucd_facts.specs.declared.decomposition.Kind.TheVariants.{Plain}
 use Rattle.ucd_facts.specs.Expansion.{expansion}
 use Rattle.ucd_model.specs.Forms.{nfd, nfc, nfkd, nfkc}
-use Rattle.ucd_facts.specs.declared.decomposition.Kind.TheVariants.{Plain}
 use Rattle.ucd_facts.specs.declared.form.Form.{Form}
 use Rattle.normalisation.specs.FormValues.{AreForms, form_of, four_forms}
 use Rattle.normalisation.specs.declared.all_forms.Forms.{Forms}

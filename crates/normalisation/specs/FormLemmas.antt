@@ -1,5 +1,4 @@
 -- Expansions of points and of lists.
---
 -- expansion_alone              a point without a mapping that counts is its own expansion
 -- appended-assoc               of three results, it is the same whether the first two or the last two are appended first
 -- nil-appended                 a result with the empty list before it is that result

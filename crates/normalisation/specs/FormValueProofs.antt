@@ -1,5 +1,4 @@
 -- Proofs on the four forms together.
---
 -- forms_are_together, plain_forms   the laws of the same names
 -- four_have_forms                   where each form is there, the four of them are together
 -- forms_given                       where each member has its expansions, each form is there
@@ -7,8 +6,8 @@ use Rattle.std.proofs.Common.{◌≡◌, ℕ, Bool, true, false, List, [], ◌�
 use Rattle.std.specs.List.{AllByRecursion as Each}
 use Rattle.ucd_model.specs.CanonicalOrder.{class_of}
 use Rattle.ucd_facts.specs.Facts.{Facts}
-use Rattle.ucd_model.specs.Forms.{appended, composed, decomposed, expansions, in_order, nfd, nfc, nfkd, nfkc}
 use Rattle.ucd_facts.specs.declared.decomposition.Kind.TheVariants.{Plain}
+use Rattle.ucd_model.specs.Forms.{appended, composed, decomposed, expansions, in_order, nfd, nfc, nfkd, nfkc}
 use Rattle.ucd_facts.specs.declared.form.Bad.{Bad as Rule}
 use Rattle.ucd_facts.specs.declared.form.Form.{Form}
 use Rattle.ucd_facts.specs.declared.form.Form.TheVariants.{Nfd, Nfc, Nfkd, Nfkc}

@@ -1,5 +1,4 @@
 -- The normalisation forms by their names, and the four of them together.
---
 -- form_of F form s      that form of s
 -- HasList value         the value is a list
 -- AreForms F s forms    the four forms of s

@@ -1,10 +1,8 @@
 -- The laws of canonical order. The Unicode Standard, section 3.11, D108 and D109.
---
 -- Reorderable class a b   a and b, beside one another, are to be exchanged: the class of a is greater than that of b, which is
 --                         not 0 (D108)
 -- Exchanges class xs ys   ys comes from xs by exchanging reorderable pairs, one after the other
 -- InOrder class xs        xs has no reorderable pair
---
 -- OrderIsReached          the ordered list comes from the list by exchanging reorderable pairs, and has no reorderable pair left
 --                         (D109)
 -- OrderIsOnly             whatever pairs are exchanged, and in whatever turn: where none is left, the list is the ordered one
@@ -13,8 +11,7 @@
 -- MarksMove               a point of another class is moved before the points directly before it that have a greater class, and
 --                         no further
 -- EqualsKeepOrder         the points of one class keep their order
-use Rattle.std.specs.Prelude.{◌≡◌, ℕ, ◌<◌, ◌≤◌, List, [], ◌∷◌, ◌++◌, ◌==◌, filter}
-use Rattle.std.specs.List.{All}
+use Rattle.std.specs.Prelude.{◌≡◌, ℕ, ◌<◌, ◌≤◌, List, [], ◌∷◌, ◌++◌, ◌==◌, filter, All}
 use Rattle.ucd_model.specs.CanonicalOrder.{order}
 
 abbrev pub Reorderable : (ℕ → ℕ) → ℕ → ℕ → Type 0

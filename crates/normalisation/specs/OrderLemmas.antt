@@ -1,5 +1,4 @@
 -- Lists in canonical order.
---
 -- last_class class k xs         the class of the last point; k where there is none
 -- Ordered class k xs            behind a point of class k, no point of non-zero class has a class less than the point before it
 -- with_next_starter             one more point of class 0 stays at the end
@@ -21,12 +20,10 @@
 -- with_next_either              so two marks of different classes are put behind a list in either turn
 -- AllLess class y xs            each class in xs is not 0, and less than that of y
 -- order_past                    the ordered list is the same whether y is read before such a list or behind it
-use Rattle.std.proofs.Common.{◌≡◌, ℕ, zero, suc, ◌<◌, ◌≤◌, Bool, true, false, cond, ◌&&◌, ◌==◌, List, [], ◌∷◌, ◌++◌, refl, sym, ap, ◌∙◌, arith}
+use Rattle.std.proofs.Common.{◌≡◌, ℕ, zero, suc, ◌<◌, ◌≤◌, Bool, true, false, cond, ◌&&◌, ◌==◌, List, [], ◌∷◌, ◌++◌, refl, sym, ap, ◌∙◌, arith, lt-ltb, le-ltb, append_assoc, append-nil}
 use Rattle.std.specs.Prelude.{⊤}
 use Rattle.std.specs.List.{list_all}
-use Rattle.std.proofs.lemmas.Bool.{lt-ltb, le-ltb}
 use Rattle.std.proofs.lemmas.Bool.Decides.{nat_tests}
-use Rattle.std.proofs.lemmas.List.{append_assoc, append-nil}
 use Rattle.std.proofs.Math.Bool.{and-false}
 use Rattle.ucd_model.specs.CanonicalOrder.{greater, placed, with_next, order_onto, order}
 

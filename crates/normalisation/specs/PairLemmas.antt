@@ -1,8 +1,7 @@
 -- What the pair of two points is.
---
 -- Joins F s y q   q is a code point with a canonical mapping, s y; q and s have class 0
 -- pair_joins      the pair of two points, where there is one, joins them so
-use Rattle.std.proofs.Common.{◌≡◌, ℕ, ◌<◌, true, ◌&&◌, ◌==◌, [], ◌∷◌, Option, Some, None, ap, ◌∙◌, sym, subst}
+use Rattle.std.proofs.Common.{◌≡◌, ℕ, ◌<◌, true, ◌==◌, [], ◌∷◌, Option, Some, None, ap, ◌∙◌, sym, subst}
 use Rattle.std.proofs.lemmas.Bool.{and_parts, eqb-true}
 use Rattle.ucd_points.specs.Limits.{point_count}
 use Rattle.ucd_facts.specs.Facts.{Facts}

@@ -1,5 +1,4 @@
 -- What a value or the rule in its place leaves behind a list.
---
 -- PutsExpansion old new result value   the value, a list of points or the rule in its place, was put behind the old list;
 --                                      no claim if memory ran out
 use Rattle.std.specs.Prelude.{◌≡◌, ℕ, List, Result, Ok, Err, ⊤}

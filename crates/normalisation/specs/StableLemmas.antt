@@ -1,5 +1,4 @@
 -- What composition keeps, point by point: what is composed so far decomposes to what was read.
---
 -- Alone F compat x                   x has an expansion, which is in order and composes to x alone
 -- StarterBelow F compat cut n        the expansion of the last starter ends with a class that is at most n
 -- Stable F compat done read          done decomposes to read; its marks are unmapped; each of its points is Alone; and the
@@ -12,12 +11,10 @@
 --                                    read and the point
 -- stable_compose                     what is composed of a list in order, without mapped members, is Stable with it, where each
 --                                    code point has its expansion
-use Rattle.std.proofs.Common.{◌≡◌, ℕ, zero, suc, ◌<◌, ◌≤◌, Bool, true, false, cond, ◌&&◌, ◌==◌, nat_lt, List, [], ◌∷◌, ◌++◌, Option, Some, None, Ok, refl, sym, ap, ◌∙◌, subst, arith}
+use Rattle.std.proofs.Common.{◌≡◌, ℕ, zero, suc, ◌<◌, ◌≤◌, Bool, true, false, cond, ◌&&◌, ◌==◌, nat_lt, List, [], ◌∷◌, ◌++◌, Option, Some, None, Ok, refl, sym, ap, ◌∙◌, subst, arith, option_map, append_assoc, append-nil}
 use Rattle.std.specs.Prelude.{⊤}
-use Rattle.std.specs.Option.{option_map}
 use Rattle.std.specs.List.{AllByRecursion as Each}
 use Rattle.std.proofs.lemmas.Bool.Decides.{nat_tests}
-use Rattle.std.proofs.lemmas.List.{append_assoc, append-nil}
 use Rattle.ucd_facts.specs.Facts.{Facts}
 use Rattle.ucd_facts.specs.Composites.{pair_of}
 use Rattle.ucd_model.specs.CanonicalOrder.{class_of, with_next, order}

@@ -1,15 +1,12 @@
 -- The last starter of a list that grows.
---
 -- CutsAt class xs cut   xs is what stands before a starter, the starter, and what stands after it, where no starter is; of None
 --                       it says nothing
 -- push_after y cut      the cut of a list with one more point at its end
 -- last_starter_cuts     last_starter cuts a list so
 -- last_starter_at       a starter behind which no other starter is is the last one, and the list is cut there
 -- last_starter_push     one more point of another class than 0 stands after the last starter that the list had
-use Rattle.std.proofs.Common.{◌≡◌, ℕ, Bool, true, false, cond, ◌==◌, List, [], ◌∷◌, ◌++◌, Option, Some, None, refl, ap, ◌∙◌}
+use Rattle.std.proofs.Common.{◌≡◌, ℕ, Bool, true, false, cond, ◌==◌, List, [], ◌∷◌, ◌++◌, Option, Some, None, refl, ap, ◌∙◌, option_map, eqb-true, eq-eqb, ne_eqb}
 use Rattle.std.specs.Prelude.{⊤}
-use Rattle.std.specs.Option.{option_map}
-use Rattle.std.proofs.lemmas.Bool.{eqb-true, eq-eqb, ne_eqb}
 use Rattle.ucd_model.specs.Composition.{Split, starter_behind, last_starter}
 
 abbrev pub CutsAt : (ℕ → ℕ) → List ℕ → Option Split → Type 0

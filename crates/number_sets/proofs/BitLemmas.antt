@@ -1,11 +1,10 @@
 -- Sets of small numbers, a bit for each. The bits of a word m say which numbers of the word at a place pass q.
---
 -- one_bit     the bits of a word with one bit set
 -- mask_bit    those of a mask
 -- none_shared, some_shared   whether a number passes that is in, if a word shares no bit with m, or some
 -- bit_put     a number is in, once one bit of a word is set, if it was in or is that bit's number
 -- mask_done, mask_left   the same once m is put into a word: of the numbers up to that word, and of those behind it
-use Rattle.std.proofs.Common.{◌≡◌, ◌≢◌, ℕ, ◌+◌, ◌-◌, ◌*◌, ◌/◌, ◌%◌, ◌^◌, ◌<◌, ◌≤◌, Bool, true, false, ◌||◌, ◌==◌, List, length, get_or, set, min, max, refl, sym, ap, ◌∙◌, inl, inr, arith, bit_and, bit_or, get_or-set_same, get_or-set_other, eq-eqb, ne_eqb, w64}
+use Rattle.std.proofs.Common.{◌≡◌, ◌≢◌, ℕ, ◌+◌, ◌-◌, ◌*◌, ◌/◌, ◌%◌, ◌^◌, ◌<◌, ◌≤◌, Bool, true, false, ◌||◌, ◌==◌, List, length, get_or, set, min, max, sym, ap, ◌∙◌, inl, inr, arith, bit_and, bit_or, get_or-set_same, get_or-set_other, eq-eqb, ne_eqb, w64}
 use Rattle.std.proofs.lemmas.Bool.{cases_eq, cases_lt, eqb-true}
 use Rattle.std.proofs.lemmas.Bool.Decides.{nat_tests}
 use Rattle.std.proofs.lemmas.Nat.{and_le_r, one_shl}

@@ -1,8 +1,7 @@
 -- The next key of a list.
---
 -- kept_by_dedup   a list that is freed of repeats has the same numbers
 -- listed_next     the first number of an ascending list that is not below start is the next one
-use Rattle.std.proofs.Common.{◌≡◌, ℕ, ◌+◌, ◌<◌, ◌≤◌, Bool, true, false, List, length, get_or, refl, sym, subst, arith, inl, inr, eqb, ltb}
+use Rattle.std.proofs.Common.{◌≡◌, ℕ, ◌+◌, ◌<◌, ◌≤◌, true, false, List, length, get_or, sym, subst, arith, inl, inr, eqb, ltb}
 use Rattle.std.specs.List.{Contains, dedup, slice_get}
 use Rattle.std.specs.List.Sorted.{IsNonDecreasing, IsPartitionPoint, IsStrictlyIncreasing}
 use Rattle.std.proofs.lemmas.Bool.{cases_lt, eqb-true, ltb-true, ltb-false, false_from_ne_true}

@@ -1,5 +1,4 @@
 -- Sets of small numbers, a bit for each.
---
 -- bit_in words k            bit k % 64 of the word at k / 64 is set; if there is no word, it is not
 -- has_number set k          the set has the number k
 -- is_between first last k   the number k is one of those from `first` to `last`, both included; none is if they descend

@@ -1,5 +1,4 @@
 -- Sets of keys, and the next key of one.
---
 -- is_in keys k           k is in the list
 -- has keys k             k is in the set: in its sorted list, or among those that were put in later
 -- IsNext p start found   `found` is the least number at or above start that passes p; None if none does

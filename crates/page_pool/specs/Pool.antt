@@ -1,5 +1,4 @@
 -- Pools of pages, as contracts see them.
---
 -- Pool              the words of all pages, one page behind the other, and for each page whether it is live
 -- is_live pool p    page p is live (false past the last page)
 -- word_of pool p a  the word at a, from 0 to 255, of page p (0 past the last page)

@@ -1,9 +1,8 @@
 -- A block is changed, and no two blocks have one page then.
-use Rattle.std.proofs.Common.{◌≡◌, ◌≢◌, ℕ, ◌+◌, ◌*◌, ◌/◌, ◌%◌, ◌<◌, ◌⊎◌, inl, inr, Bool, true, false, leb, ◌&&◌, ◌||◌, cond, List, length, set, refl, sym, ap, subst, ◌∙◌, arith}
+use Rattle.std.proofs.Common.{◌≡◌, ◌≢◌, ℕ, ◌+◌, ◌*◌, ◌/◌, ◌%◌, ◌<◌, ◌⊎◌, inl, inr, Bool, true, false, leb, ◌&&◌, ◌||◌, cond, List, length, set, refl, sym, ap, subst, ◌∙◌, arith, get_or-set_same, get_or-set_other}
 use Rattle.std.proofs.lemmas.Bool.{cases_eq, cases_Bool, or_cases, true≢false, eq-eqb, or_parts, or_right, or_left}
 use Rattle.std.proofs.lemmas.Bool.Decides.{nat_tests}
 use Rattle.std.proofs.Math.ListN.{length-set}
-use Rattle.std.proofs.lemmas.List.{get_or-set_same, get_or-set_other}
 use Rattle.page_pool.specs.Pool.{Pool, is_live, word_of}
 use Rattle.paged_table.specs.declared.block.Block.{Block}
 use Rattle.paged_table.specs.declared.block.Block.TheVariants.{One, Page}

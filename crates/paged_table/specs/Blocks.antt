@@ -1,5 +1,4 @@
 -- Blocks of 256 values: one value throughout, or a page of words.
---
 -- block_at xs b            block b of a list of blocks (past the last one: the value 0 throughout)
 -- value_of pool x a        the value at place a, from 0 to 255, of the block x
 -- values pool xs c         the value at a code point: at place c % 256 of block c / 256

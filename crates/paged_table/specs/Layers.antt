@@ -1,5 +1,4 @@
 -- The blocks of all code points, twice: as they are now, and as they are next.
---
 -- uses xs ys b p           block b has page p, in xs or in ys
 -- IsUnused xs ys p         no block has page p, in xs or in ys
 -- IsApart pool xs ys       what holds of the two lists of blocks, now and next, and their pages

@@ -1,5 +1,4 @@
 -- Paged tables, as contracts see them.
---
 -- Paged              the pool, and the blocks now and next
 -- blocks_next xs ys  the blocks next, if xs are those now, and ys is their own list, which is empty if they are those now
 -- values_now t       the values now

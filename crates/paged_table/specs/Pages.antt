@@ -1,5 +1,4 @@
 -- Blocks of 256 code points, and whether their values are equal, as functions of the code point.
---
 -- block_count          there are 4352 blocks
 -- block_width          of 256 code points each
 -- in_block f b         the 256 values of block b: those from code point 256 b on
@@ -9,8 +8,7 @@
 -- uneven_count f n     how many of the first n blocks have several values
 -- EvenBlocksAreTold    even_block tells exactly which blocks have equal values
 -- ShowsPage ..         a page shows the values of a block that has several values; no page, that they are equal
-use Rattle.std.specs.Prelude.{◌≡◌, ℕ, zero, suc, ◌+◌, ◌*◌, ◌<◌, Bool, true, not, ◌==◌, ◌&&◌, Option, None, Some}
-use Rattle.std.specs.Bool.{Decides}
+use Rattle.std.specs.Prelude.{◌≡◌, ℕ, zero, suc, ◌+◌, ◌*◌, ◌<◌, Bool, true, not, ◌==◌, ◌&&◌, Option, None, Some, Decides}
 use Rattle.std.specs.List.{count_by, range_with_len}
 use Rattle.page_pool.specs.Pool.{Pool, is_live, word_of}
 use Rattle.paged_table.specs.Blocks.{IsEven}

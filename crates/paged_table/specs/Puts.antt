@@ -1,5 +1,4 @@
 -- What becomes of the pages where a part of a block is given a value.
---
 -- StaysPage pool pool' p                   page p is live in the pool after, and has the words that it had
 -- Puts pool pool' now next new lo hi v     next is set to v from lo to hi, and is new then; the pool was pool, and is pool';
 --                                          now stays as it is

@@ -2,7 +2,7 @@
 use Rattle.std.proofs.Common.{◌≡◌, ℕ, ◌+◌, ◌<◌, ◌≤◌, Bool, false, List, [], ◌∷◌, ◌++◌, length, take, drop, get_or, Some, None, not, sym, ap, subst, ◌∙◌, arith}
 use Rattle.std.specs.List.{All, position_or_len}
 use Rattle.std.proofs.Math.Seq.{take-append-add}
-use Rattle.std.proofs.lemmas.List.{length-append, length-drop, length-map, length-take-le, take-append-drop, take-append-le}
+use Rattle.std.proofs.lemmas.List.{length-drop, length-map, length-take-le, take-append-drop, take-append-le}
 use Rattle.std.proofs.lemmas.List.Elements.{All-cons, All-head, All-tail}
 use Rattle.part_list.specs.Parts.{flat, part_at, before}
 use Rattle.part_list.specs.Finds.{FirstIn}

@@ -1,6 +1,5 @@
 -- The code points of which entries of a list may speak.
-use Rattle.std.proofs.Common.{◌≡◌, ℕ, ◌≤◌, Bool, true, false, List, length, max, not, Option, Some, None, is_some, inl, inr, refl, subst, sym, ◌∙◌, arith}
-use Rattle.std.specs.Box.{box_value}
+use Rattle.std.proofs.Common.{◌≡◌, ℕ, ◌≤◌, Bool, true, false, List, length, max, not, Option, Some, None, is_some, inl, inr, refl, subst, sym, ◌∙◌, arith, box_value}
 use Rattle.std.specs.Global.{Box}
 use Rattle.std.specs.List.{position_or_len}
 use Rattle.std.proofs.lemmas.List.Sums.{fails_before_first}

@@ -1,11 +1,11 @@
 -- Edits of one part, seen on the whole list.
-use Rattle.std.proofs.Common.{◌≡◌, ℕ, zero, suc, ◌+◌, ◌<◌, ◌≤◌, Bool, true, List, [], ◌∷◌, ◌++◌, length, take, drop, map, set, get_or, cond, nat_lt, zero-add, refl, sym, ap, subst, ◌∙◌, arith}
-use Rattle.std.specs.List.{insert, filter}
+use Rattle.std.proofs.Common.{◌≡◌, ℕ, zero, suc, ◌+◌, ◌<◌, ◌≤◌, Bool, true, List, [], ◌∷◌, ◌++◌, length, take, drop, map, set, get_or, cond, nat_lt, zero-add, refl, sym, ap, subst, ◌∙◌, arith, insert, filter}
 use Rattle.std.proofs.Math.Seq.{take-append-add, drop-append-add}
-use Rattle.std.proofs.lemmas.List.{append-nil, append_assoc, length-append, length-map, take-append-drop, take-append-le, drop-append-le, set_split, map-set, map-append, take-map, drop-map, get_or-map, length-take-le, length-drop, take_more, take_more_set, drop-set-lt, drop_more}
+use Rattle.std.proofs.lemmas.List.{append-nil, append_assoc, length-append, length-map, take-append-le, drop-append-le, set_split, map-set, get_or-map, length-take-le, length-drop, take_more, take_more_set, drop-set-lt}
 use Rattle.std.proofs.lemmas.Bool.Decides.{nat_tests}
 use Rattle.std.proofs.lemmas.List.Edits.{map_over_more, get_or-insert_below}
 use Rattle.std.proofs.lemmas.List.Concat.{flat_map-append, get_or-flat_map}
+use Rattle.ucd_points.specs.PlainProofs.{map_insert}
 use Rattle.part_list.specs.SpotLaws.{around}
 use Rattle.part_list.specs.Parts.{flat, part_at, before, spliced}
 use Rattle.part_list.specs.PartValues.{PartValue, parts_now, parts_next, committed, discarded, has_entries}
@@ -45,13 +45,10 @@ flat-cut [] k a b h e = absurd (omega arith)
 flat-cut (p ∷ xs) zero a b h e = sym (append_assoc a b (flat xs)) ∙ ap (λ q. q ++ flat xs) e
 flat-cut (p ∷ xs) (suc k) a b h e = ap (λ rest. p ++ rest) (flat-cut xs k a b (omega arith) e)
 
-map-insert : {A B : Type 0} (f : A → B) (xs : List A) (i : ℕ) (y : A) → map f (insert xs i y) ≡ insert (map f xs) i (f y)
-map-insert f xs i y = rw (map-append f (take i xs) (y ∷ drop i xs), take-map f i xs, drop-map f i xs) refl
-
 -- the same of one version of the parts
 pub flat-cut_by : {A B : Type 0} (f : A → List B) (xs : List A) (k : ℕ) (v w : A) → k < length xs → f w ++ f v ≡ part_at (map f xs) k → flat (map f (set (insert xs (suc k) v) k w)) ≡ flat (map f xs)
 flat-cut_by f xs k v w h e =
-    rw (map-set f (insert xs (suc k) v) k w, map-insert f xs (suc k) v)
+    rw (map-set f (insert xs (suc k) v) k w, map_insert f xs (suc k) v)
     (flat-cut (map f xs) k (f w) (f v) (let n = length-map xs f in omega arith) e)
 
 -- the entry at a place

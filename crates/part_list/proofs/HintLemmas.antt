@@ -1,6 +1,5 @@
 -- What is told of all entries of a list.
-use Rattle.std.proofs.Common.{◌≡◌, ℕ, Bool, false, List}
-use Rattle.std.specs.List.{All}
+use Rattle.std.proofs.Common.{◌≡◌, ℕ, Bool, false, List, All}
 use Rattle.std.proofs.lemmas.List.Elements.{All-weaker, All-append, All-take, All-drop}
 use Rattle.part_list.specs.Hints.{IsHinted}
 use Rattle.part_list.specs.Parts.{spliced}

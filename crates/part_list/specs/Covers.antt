@@ -1,5 +1,4 @@
 -- The code points of which entries of a list may speak.
---
 -- AllSet, NoneSet points first last   the code points from one to another are in; none of them is
 -- end_of entry              the greater one of an entry's first and last code points
 -- Meets entry first last    an entry has one of the code points from one to another, which do not descend
@@ -9,8 +8,7 @@
 -- HoldsMore old new         what is held stays so
 -- IsCovered cover entry     the entry is held; each is if nothing is known
 -- CoversMore old new        what is covered stays so
-use Rattle.std.specs.Prelude.{◌≡◌, ◌⊎◌, ℕ, ◌<◌, ◌≤◌, Bool, true, false, List, length, max, Option, Some, None, slice_index_or}
-use Rattle.std.specs.Box.{box_value}
+use Rattle.std.specs.Prelude.{◌≡◌, ◌⊎◌, ℕ, ◌<◌, ◌≤◌, Bool, true, false, List, length, max, Option, Some, None, slice_index_or, box_value}
 use Rattle.std.specs.Global.{Box}
 use Rattle.number_sets.specs.Bits.{has_number}
 use Rattle.number_sets.specs.declared.bit_set.BitSet.{BitSet}

@@ -1,5 +1,4 @@
 -- What a search answers.
---
 -- FirstAt result p parts    the spot of the first entry of the list that passes p; None if none passes
 -- LastAt result p parts     the same of the last entry that passes p
 -- StandsAt result n parts   the spot of the entry at the place n of the list, counted from 0; None past the last

@@ -1,11 +1,9 @@
 -- Bounds of blocks of parts.
---
 -- width                     how many parts a block has
 -- Covers guides parts       the first blocks have bounds, and the entries of their parts are within them
 -- CoversBut slot guides parts   the same of all blocks but the one of this part
 -- RulesOut p parts from to  no entry of the parts from one up to another passes p
-use Rattle.std.specs.Prelude.{◌≡◌, ℕ, ◌+◌, ◌*◌, ◌/◌, ◌<◌, ◌≤◌, Bool, false, List, length, slice_index_or}
-use Rattle.std.specs.List.{All}
+use Rattle.std.specs.Prelude.{◌≡◌, ℕ, ◌+◌, ◌*◌, ◌/◌, ◌<◌, ◌≤◌, Bool, false, List, length, slice_index_or, All}
 use Rattle.part_list.specs.declared.reach.Reach.{Reach}
 use Rattle.part_list.specs.declared.spanned.Spanned.{Spanned}
 use Rattle.part_list.specs.Parts.{part_at}

@@ -1,5 +1,4 @@
 -- What may be told of all entries of a list.
---
 -- IsHinted hints entry      the entry's tag may be one of the tags, and the entry is covered
 use Rattle.part_list.specs.Covers.{IsCovered}
 use Rattle.part_list.specs.SeenNumbers.{IsKnown}

@@ -1,5 +1,4 @@
 -- Entries in order, and those that cannot pass.
---
 -- IsUpTo a b            neither the first nor the last code point descends from one entry to the other
 -- IsOrdered entries     so it is of each entry and each one behind it
 -- IsOrderedIn xs from to   so it is of those from one place up to another

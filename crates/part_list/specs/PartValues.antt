@@ -1,5 +1,4 @@
 -- A part of a list.
---
 -- PartValue A               its entries now and next, and whether what is next is kept apart from what is now
 -- committed part            the part once what is next is what is now
 -- discarded part            the part once what is now is what is next

@@ -1,5 +1,4 @@
 -- A list in parts.
---
 -- flat parts            the parts put together, one behind the other: the list
 -- part_at parts k       part k, counted from 0; no entries if there is no such part
 -- before parts k        how many entries the first k parts have
@@ -9,8 +8,7 @@
 -- spliced xs at n ys    xs with ys in the place of the n entries from place at on
 -- PartLists A           the parts now, and the parts next
 -- now_in l, next_in l   the list now, and the list next
-use Rattle.std.specs.Prelude.{ℕ, ◌+◌, ◌<◌, ◌≤◌, List, [], ◌++◌, length, take, drop, slice_index_or}
-use Rattle.std.specs.List.{flat_map}
+use Rattle.std.specs.Prelude.{ℕ, ◌+◌, ◌<◌, ◌≤◌, List, [], ◌++◌, length, take, drop, slice_index_or, flat_map}
 use Rattle.part_list.specs.declared.spot.Spot.{Spot}
 
 abbrev pub flat : {A : Type 0} → List (List A) → List A

@@ -1,8 +1,6 @@
 -- What an edit puts into a list.
---
 -- put_entries put    the entries, in order
-use Rattle.std.specs.Prelude.{List, ◌++◌}
-use Rattle.std.specs.Option.{option_to_list}
+use Rattle.std.specs.Prelude.{List, ◌++◌, option_to_list}
 use Rattle.part_list.specs.declared.put.Put.{Put}
 use Rattle.part_list.specs.declared.spanned.Spanned.{Spanned}
 

@@ -1,5 +1,4 @@
 -- The code points that the entries of a part speak of, and their tags.
---
 -- IsWithin reach entry    the entry's code points lie in the reach, both the first and the last, and so does its tag
 -- IsWider old new         the new reach has all of the old one
 -- Skips p reach           no entry within the reach passes p

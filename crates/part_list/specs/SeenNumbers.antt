@@ -1,5 +1,4 @@
 -- The tags that entries of a list may have.
---
 -- may_have tags t      t may be one of the tags: each may if nothing is known
 -- IsKnown tags entry   the entry's tag may be one of the tags
 -- Grows old new        the new tags have all of the old ones

@@ -1,14 +1,12 @@
 -- What is known of the spots that searches answer.
---
 -- around          a list is cut round a part
 -- place-lt        the place of an entry lies in the list
 -- first_passes    the first entry that passes does pass
 -- first_some      if there is a first one, some entry passes
 -- first_none      if there is none, no entry passes
 -- last_passes     the last entry that passes does pass
-use Rattle.std.specs.Prelude.{◌≡◌, ℕ, ◌+◌, ◌<◌, Bool, true, false, List, length, take, drop, slice_index_or, Some, None}
 use Rattle.std.specs.List.{list_any, suffix_len}
-use Rattle.std.proofs.Common.{[], ◌++◌, ◌-◌, refl, reverse, not, sym, ap, subst, ◌∙◌, arith}
+use Rattle.std.proofs.Common.{[], ◌++◌, ◌-◌, reverse, not, sym, ap, subst, ◌∙◌, arith, ◌≡◌, ℕ, ◌+◌, ◌<◌, Bool, true, false, List, length, take, drop, slice_index_or, Some, None}
 use Rattle.std.proofs.lemmas.List.{length-append, take-append-drop, drop_more, get_or_default, length-reverse, get_or-reverse}
 use Rattle.std.proofs.lemmas.List.Concat.{flat_map-append}
 use Rattle.std.proofs.lemmas.List.Folds.{list_any-from_Any, list_any_none}

@@ -1,5 +1,4 @@
 -- Trees without a compatibility mapping.
---
 -- has_compat F n c     a point of the tree of c with n levels has a compatibility mapping
 -- canonical_asks F c   what Form C of c asks, if a point of its tree has such a mapping; else nothing: Form KC asks the same
 -- compat_here, compat_there, compat_nowhere   with a level left: of c itself, of a member of its mapping, and of none of these
@@ -8,13 +7,12 @@ use Rattle.std.proofs.Common.{◌≡◌, ◌≢◌, ◌∙◌, ℕ, zero, suc, �
 use Rattle.std.specs.List.{flat_map, list_any}
 use Rattle.std.proofs.lemmas.Bool.{or_parts}
 use Rattle.std.proofs.Math.Bool.{or-true}
-use Rattle.ucd_facts.specs.Expansion.{counts, counted, joined, alone_or_joined, expand, full}
+use Rattle.ucd_facts.specs.Expansion.{counts, counted, joined, alone_or_joined, expand, full, is_compat}
 use Rattle.ucd_facts.specs.Facts.{Facts}
 use Rattle.ucd_facts.specs.declared.decomposition.Kind.{Kind}
 use Rattle.ucd_facts.specs.declared.decomposition.Kind.TheVariants.{Compat}
 use Rattle.ucd_facts.specs.declared.query.Query.{Query}
 use Rattle.query_laws.specs.Questions.{tree, whole_tree, asks}
-use Rattle.ucd_facts.specs.Expansion.{is_compat}
 
 abbrev pub has_compat : (ℕ → Facts) → ℕ → ℕ → Bool
 has_compat F zero c = false

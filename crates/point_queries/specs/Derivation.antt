@@ -1,5 +1,4 @@
 -- The derivation of a code point with its questions.
---
 -- DerivesAs r value        r is the record, or in its place the rule; no claim if memory ran out
 -- plain_shown c G          the point c with the facts G has no mapping
 -- composite_shown F G      the pair of the mapping of a point with the facts G, where it is a primary composite
@@ -14,6 +13,8 @@ use Rattle.std.specs.List.{flat_map, range_with_len}
 use Rattle.ucd_facts.specs.Composites.{is_canonical, first_has_class_zero}
 use Rattle.ucd_facts.specs.Expansion.{rule_of}
 use Rattle.ucd_facts.specs.Facts.{Facts}
+use Rattle.ucd_facts.specs.declared.image.Image.{Image}
+use Rattle.ucd_facts.specs.declared.image.Image.TheVariants.{Same, To}
 use Rattle.ucd_model.specs.FoldRounds.{rounds}
 use Rattle.ucd_model.specs.Records.{Record, kept_record}
 use Rattle.ucd_facts.specs.Uniform.{IsPlain}
@@ -24,9 +25,6 @@ use Rattle.ucd_facts.specs.declared.folding.Folding.{Folding}
 use Rattle.ucd_facts.specs.declared.folding.Folding.TheVariants.{Full, Simple}
 use Rattle.ucd_facts.specs.declared.form.Bad.{Bad as Rule}
 use Rattle.ucd_facts.specs.declared.form.FormStop.{FormStop}
-use Rattle.ucd_facts.specs.declared.image.Image.{Image}
-use Rattle.ucd_facts.specs.declared.image.Image.TheVariants.{Same, To}
-use Rattle.ucd_facts.specs.declared.query.Query.{Query}
 use Rattle.ucd_facts.specs.declared.query.Query.TheVariants.{Row, Second}
 use Rattle.std.proofs.lemmas.Bool.{true≢false, and_parts, eqb-true}
 use Rattle.std.proofs.lemmas.List.{nil_from_length}
@@ -34,6 +32,7 @@ use Rattle.std.proofs.lemmas.List.Folds.{list_any-append}
 use Rattle.ucd_points.specs.Answers.{AnswersBy}
 use Rattle.ucd_model.specs.Forms.{nfkc}
 use Rattle.ucd_facts.specs.Answers.{same_query, is_asked}
+use Rattle.ucd_facts.specs.declared.query.Query.{Query}
 use Rattle.ucd_facts.specs.Shown.{shown_facts}
 use Rattle.ucd_facts.specs.declared.view.FactsRef.{FactsRef}
 use Rattle.query_laws.specs.PlainProofs.{plain_ask_own}

@@ -1,16 +1,12 @@
 -- Forms that may not be there.
---
 -- list_in r            the list r; None where r is a rule
 -- composing_at F form   what the composition of the decomposed list asks; of None nothing
 -- composed_at F form    the decomposed list composed; None where there is none
--- composing_in, composed_in   these are what the definitions of the forms say
-use Rattle.std.specs.Prelude.{ℕ, List, [], Option, Some, None, Result, Ok, Err}
-use Rattle.std.proofs.Common.{◌≡◌, refl}
+use Rattle.std.proofs.Common.{ℕ, List, [], Option, Some, None, Result, Ok, Err}
 use Rattle.ucd_model.specs.CanonicalOrder.{class_of}
 use Rattle.ucd_facts.specs.Composites.{pair_of}
 use Rattle.ucd_model.specs.Composition.{compose}
 use Rattle.ucd_facts.specs.Facts.{Facts}
-use Rattle.ucd_model.specs.Forms.{composed}
 use Rattle.ucd_facts.specs.declared.form.Bad.{Bad as Rule}
 use Rattle.ucd_facts.specs.declared.query.Query.{Query}
 use Rattle.query_laws.specs.Questions.{composing_asks}
@@ -26,11 +22,3 @@ composing_at F None = []
 abbrev pub composed_at : (ℕ → Facts) → Option (List ℕ) → Option (List ℕ)
 composed_at F (Some s) = Some (compose (class_of F) (pair_of F) s)
 composed_at F None = None
-
-pub composing_in : (F : ℕ → Facts) (r : Result (List ℕ) Rule) → composing_at F (list_in r) ≡ composing_asks F r
-composing_in F (Ok s) = refl
-composing_in F (Err rule) = refl
-
-pub composed_in : (F : ℕ → Facts) (r : Result (List ℕ) Rule) → composed_at F (list_in r) ≡ list_in (composed F r)
-composed_in F (Ok s) = refl
-composed_in F (Err rule) = refl

@@ -15,10 +15,7 @@
 -- round_covered                          of a round that is alike, what is put and what it gives is what each folding puts and gives
 -- rounds_stop, rounds_more, rounds_end   a round after which no other list comes, one after which another one comes, and no
 --                                        round left
-use Rattle.std.proofs.Common.{◌≡◌, ℕ, zero, suc, ◌+◌, ◌-◌, ◌<◌, ◌≤◌, Bool, true, false, cond, ◌||◌, ◌&&◌, List, [], ◌∷◌, ◌++◌, append_assoc, append-nil, length, nat_le, Option, Some, None, is_some, if◌then◌else◌, refl, sym, ap, ◌∙◌, subst, arith}
-use Rattle.std.specs.Option.{option_and_then}
-use Rattle.std.specs.Str.{bytes_eq}
-use Rattle.std.proofs.lemmas.Bool.{true≢false}
+use Rattle.std.proofs.Common.{◌≡◌, ℕ, zero, suc, ◌+◌, ◌-◌, ◌<◌, ◌≤◌, Bool, true, false, cond, ◌||◌, ◌&&◌, List, [], ◌∷◌, ◌++◌, append_assoc, append-nil, length, nat_le, Option, Some, None, is_some, if◌then◌else◌, refl, sym, ap, ◌∙◌, subst, arith, option_and_then, bytes_eq, true≢false}
 use Rattle.std.proofs.lemmas.List.Folds.{list_any-append}
 use Rattle.std.proofs.lemmas.Slice.Eq.{bytes_eq-Decides}
 use Rattle.std.proofs.Math.Bool.{or-true, or_assoc}
@@ -27,8 +24,8 @@ use Rattle.ucd_facts.specs.Facts.{Facts}
 use Rattle.ucd_model.specs.FoldRounds.{drop_ignorable, short, round}
 use Rattle.ucd_model.specs.Forms.{nfkc}
 use Rattle.ucd_facts.specs.declared.folding.Folding.{Folding}
-use Rattle.ucd_facts.specs.declared.query.Query.{Query}
 use Rattle.ucd_facts.specs.Answers.{same_query, is_asked}
+use Rattle.ucd_facts.specs.declared.query.Query.{Query}
 use Rattle.query_laws.specs.Turns.{SameQueries}
 use Rattle.query_laws.specs.Questions.{asks, last_round, rounds_ask, row_queries}
 use Rattle.fold_rounds.specs.AlikeProofs.{covered_both, folded_covered}

@@ -1,13 +1,11 @@
 -- The members of a code point's mappings, part by part.
---
 -- simple_members G     the simple case mappings and the simple folding, of a point with the facts G
 -- image_members c G    the members of the full case mappings and the full folding of the point c with the facts G
 -- members_joined       the rows of the decomposition mapping, of the simple and of the full mappings, one behind the other, are
 --                      those of the members of all mappings
 -- images_joined        the rows of the four full mappings, one behind the other, are those of the members of these
 -- rows_joined          the rows of two lists, one behind the other, are those of the lists joined
-use Rattle.std.proofs.Common.{◌≡◌, ℕ, List, [], ◌∷◌, ◌++◌, refl, ap, append_assoc, append-nil}
-use Rattle.std.specs.List.{flat_map}
+use Rattle.std.proofs.Common.{◌≡◌, ℕ, List, [], ◌∷◌, ◌++◌, refl, ap, append_assoc, append-nil, flat_map}
 use Rattle.ucd_facts.specs.Facts.{Facts, image_points}
 use Rattle.ucd_model.specs.Validity.{mappings}
 use Rattle.ucd_facts.specs.declared.query.Query.{Query}

@@ -1,18 +1,16 @@
 -- Lists of questions as sets.
---
 -- set_has     a list of questions that is sorted by some order and freed of repeats has the same questions
 -- set_rises   and each of its questions is below those behind it
-use Rattle.std.proofs.Common.{◌≡◌, Bool, true, List, sym, subst}
+use Rattle.std.proofs.Common.{◌≡◌, Bool, true, List, sym, subst, Ordering}
 use Rattle.std.specs.Cmp.{IsEquivalence, IsTotalOrder, both_ways}
 use Rattle.std.specs.Ordering.{eq_by_cmp}
-use Rattle.std.specs.declared.cmp.Ordering.{Ordering}
 use Rattle.std.specs.List.{Contains, dedup}
 use Rattle.std.specs.List.Sorted.{IsPermutation, IsSorted, IsStrictlySortedBy}
 use Rattle.std.proofs.lemmas.List.Kept.{Contains-dedup, Contains-from_dedup, IsStrictlySortedBy-dedup}
 use Rattle.std.proofs.lemmas.List.Sorted.{Contains-permutation, IsPermutation-sym}
 use Rattle.std.proofs.lemmas.Map.Views.{list_any-from_Contains, Contains-from_any}
-use Rattle.ucd_facts.specs.declared.query.Query.{Query}
 use Rattle.ucd_facts.specs.Answers.{is_asked}
+use Rattle.ucd_facts.specs.declared.query.Query.{Query}
 use Rattle.ucd_facts.specs.AnswerProofs.{queries_are_told, same_query-equivalence}
 
 asked_from : (xs : List Query) (q : Query) → Contains xs q → is_asked xs q ≡ true

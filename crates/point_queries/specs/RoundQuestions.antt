@@ -1,17 +1,14 @@
 -- The rounds of a code point that reaches a last one, step by step.
---
 -- rounds_are     what is put round by round are the questions that all rounds up to the last one ask
-use Rattle.std.proofs.Common.{◌≡◌, ℕ, zero, suc, ◌+◌, ◌-◌, ◌<◌, ◌≤◌, true, false, cond, ◌||◌, List, [], ◌∷◌, ◌++◌, add-one, Option, Some, None, is_some, refl, sym, ap, ◌∙◌, subst, arith}
+use Rattle.std.proofs.Common.{◌≡◌, ℕ, zero, suc, ◌+◌, ◌-◌, ◌<◌, ◌≤◌, true, false, cond, ◌||◌, List, [], ◌∷◌, ◌++◌, add-one, Option, Some, None, is_some, refl, sym, ap, ◌∙◌, subst, arith, option_and_then, true≢false}
 use Rattle.std.specs.List.{flat_map, range_with_len}
-use Rattle.std.specs.Option.{option_and_then}
-use Rattle.std.proofs.lemmas.Bool.{true≢false}
 use Rattle.std.proofs.lemmas.List.Folds.{list_any-append}
 use Rattle.ucd_facts.specs.CompositeProofs.{Least, find_least}
 use Rattle.ucd_facts.specs.Facts.{Facts}
 use Rattle.ucd_model.specs.FoldRounds.{round, rounds, is_list, is_fixed, is_last}
 use Rattle.ucd_facts.specs.declared.folding.Folding.{Folding}
-use Rattle.ucd_facts.specs.declared.query.Query.{Query}
 use Rattle.ucd_facts.specs.Answers.{same_query, is_asked}
+use Rattle.ucd_facts.specs.declared.query.Query.{Query}
 use Rattle.query_laws.specs.Turns.{SameQueries}
 use Rattle.query_laws.specs.Questions.{round_asks, round_asks_at, last_round, rounds_ask}
 use Rattle.point_queries.specs.Rounds.{next_at, asks_at, asks_from, asks_step, round_puts, round_same}

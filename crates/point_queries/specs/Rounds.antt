@@ -16,10 +16,7 @@
 -- form_again                    an equal list has the same form
 -- round_same                    what is put for a round are the questions that it asks
 -- asks_step, asks_none          asks_from with a round left, and without one
-use Rattle.std.specs.Prelude.{ℕ, zero, suc, List, [], ◌++◌, length, nat_le, Option, Some, None, Result, Ok, Err, if◌then◌else◌}
-use Rattle.std.proofs.Common.{◌≡◌, Bool, true, false, cond, ◌||◌, refl, sym, ap, ◌∙◌}
-use Rattle.std.specs.Option.{option_and_then}
-use Rattle.std.specs.Str.{bytes_eq}
+use Rattle.std.proofs.Common.{◌≡◌, Bool, true, false, cond, ◌||◌, refl, sym, ap, ◌∙◌, ℕ, zero, suc, List, [], ◌++◌, length, nat_le, Option, Some, None, Result, Ok, Err, if◌then◌else◌, option_and_then, bytes_eq}
 use Rattle.std.proofs.lemmas.List.Folds.{list_any-append}
 use Rattle.std.proofs.lemmas.Slice.Eq.{bytes_eq-Decides}
 use Rattle.ucd_model.specs.Casing.{folded}
@@ -28,8 +25,8 @@ use Rattle.ucd_model.specs.FoldRounds.{drop_ignorable, short, short_form, short_
 use Rattle.ucd_model.specs.Forms.{nfkc}
 use Rattle.ucd_facts.specs.declared.folding.Folding.{Folding}
 use Rattle.ucd_facts.specs.declared.form.Bad.{Bad as Rule}
-use Rattle.ucd_facts.specs.declared.query.Query.{Query}
 use Rattle.ucd_facts.specs.Answers.{same_query, is_asked}
+use Rattle.ucd_facts.specs.declared.query.Query.{Query}
 use Rattle.query_laws.specs.Questions.{asks, folding_asks, round_asks, row_queries}
 use Rattle.query_laws.specs.Turns.{SameQueries}
 use Rattle.point_queries.specs.Forms.{list_in}

@@ -1,6 +1,5 @@
 -- tree_below, tree_end   with a level left, the tree is the point and the trees of the members of its mapping, with one level less
-use Rattle.std.proofs.Common.{◌≡◌, ◌≢◌, ℕ, zero, suc, ◌-◌, ◌≤◌, Bool, List, [], ◌∷◌, ◌++◌, drop, length, append_assoc, append-nil, sym, ap, ◌∙◌, arith, refl}
-use Rattle.std.specs.List.{flat_map}
+use Rattle.std.proofs.Common.{◌≡◌, ◌≢◌, ℕ, zero, suc, ◌-◌, ◌≤◌, Bool, List, [], ◌∷◌, ◌++◌, drop, length, append_assoc, append-nil, sym, ap, ◌∙◌, arith, refl, flat_map}
 use Rattle.std.proofs.Math.ListN.{drop_of_length-le}
 use Rattle.ucd_facts.specs.Expansion.{counted}
 use Rattle.ucd_facts.specs.Facts.{Facts}

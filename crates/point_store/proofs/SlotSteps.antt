@@ -1,6 +1,5 @@
 -- Values that stay at their places.
-use Rattle.std.proofs.Common.{◌≡◌, ℕ, zero, suc, ◌<◌, ◌≤◌, ◌&&◌, Bool, true, false, nat_le, if◌then◌else◌, List, ◌∷◌, [], ◌++◌, length, take, Option, None, Some, is_some, set, slice_index_or, refl, sym, ap, ◌∙◌, arith, inl, inr}
-use Rattle.std.specs.Option.{unwrap_or}
+use Rattle.std.proofs.Common.{◌≡◌, ℕ, zero, suc, ◌<◌, ◌≤◌, ◌&&◌, Bool, true, false, nat_le, if◌then◌else◌, List, ◌∷◌, [], ◌++◌, length, take, Option, None, Some, is_some, set, slice_index_or, refl, sym, ap, ◌∙◌, arith, inl, inr, unwrap_or}
 use Rattle.std.proofs.lemmas.Bool.{cases_lt, true≢false}
 use Rattle.std.proofs.lemmas.List.{get_or-set_other, get_or-take, get_or_append_left, get_or_past, length-take-le}
 use Rattle.range_table.specs.Values.{SameValues, with_span}

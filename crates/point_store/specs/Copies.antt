@@ -1,5 +1,4 @@
 -- What makes copies of values.
---
 -- Copies gives   what a call gives for a value, if it gives one, is that value
 use Rattle.std.specs.Prelude.{◌≡◌, Result, IfOk}
 use Rattle.std.specs.Borrow.{Bor}

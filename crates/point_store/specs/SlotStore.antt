@@ -1,5 +1,4 @@
 -- The values of a store over a table of places.
---
 -- values now k c    the value of each code point; now reads the table of places
 -- places now k c    the place of each code point's value; now reads the table of places
 -- held k p          the value at place p; None where none is held, or where it was let go

@@ -1,13 +1,11 @@
 -- Values at places, of which some may have been let go.
---
 -- held_at s p          the value at place p; None where it was let go, and past the last place
 -- value_at s p         the same; where there is none, the value at place 0, which is never let go
 -- held_behind s        how many places behind place 0 hold a value
 -- AreHeld s places     a value is held at the place of each code point
 -- is_unused unused p   place p is one of the unused ones
 -- AreUsed unused places   the place of no code point is one of them
-use Rattle.std.specs.Prelude.{◌≡◌, ℕ, ◌<◌, Bool, true, false, List, ◌∷◌, Option, None, Some, is_some, slice_index_or, count_by}
-use Rattle.std.specs.Option.{unwrap_or}
+use Rattle.std.specs.Prelude.{◌≡◌, ℕ, ◌<◌, Bool, true, false, List, ◌∷◌, Option, None, Some, is_some, slice_index_or, count_by, unwrap_or}
 use Rattle.point_store.specs.declared.slots.Slots.{Slots}
 
 abbrev pub held_at : {V : Type 0} → Slots V → ℕ → Option V

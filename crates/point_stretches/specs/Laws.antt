@@ -1,17 +1,15 @@
 -- What is known of the stretches that an iterator gives.
---
 -- stretches_cover   they follow one another without a gap, from where it stands up to the last code point, and each is told
 -- holds_of_all      what holds throughout each of them holds of all code points
 -- few_stretches     there are at most as many as code points
 -- alike             what is the same from a code point up to the one that is told is the same throughout a stretch
 -- counted_turn      if those of a stretch pass all or none, they are counted by its first
-use Rattle.std.proofs.Common.{◌≡◌, ℕ, zero, suc, ◌+◌, ◌-◌, ◌<◌, ◌≤◌, Bool, true, false, cond, List, [], ◌∷◌, length, count_by, refl, sym, ap, subst, ◌∙◌, arith, inl, inr}
+use Rattle.std.proofs.Common.{◌≡◌, ℕ, ◌+◌, ◌-◌, ◌<◌, ◌≤◌, Bool, cond, List, [], ◌∷◌, length, count_by, ap, subst, ◌∙◌, arith, inl, inr}
 use Rattle.std.specs.Iterator.{Drains, Yields}
 use Rattle.std.specs.List.{All, range_with_len}
 use Rattle.std.proofs.lemmas.Bool.{cases_lt}
-use Rattle.std.proofs.lemmas.List.{map-id}
 use Rattle.std.proofs.lemmas.List.Elements.{All-head, All-tail}
-use Rattle.std.proofs.lemmas.List.FromFn.{sum_by-map-range_with_len_more}
+use Rattle.ucd_points.specs.PlainProofs.{count_alike}
 use Rattle.ucd_points.specs.Bounds.{Bounds}
 use Rattle.point_stretches.specs.declared.stretch_iter.StretchIter.{StretchIter}
 use Rattle.point_stretches.specs.Stretches.{Follow, GivesStretch, IsNext, TellsAlike}
@@ -42,30 +40,6 @@ few_stretches post (x ∷ xs) a b f = omega (arith, f.0, f.1, few_stretches post
 
 -- ---- counts
 
-count_more : (p : ℕ → Bool) (n : ℕ) → count_by p (range_with_len 0 (n + 1)) ≡ count_by p (range_with_len 0 n) + cond (p n) 1 0
-count_more p n =
-    ap (count_by p) (sym (map-id (range_with_len 0 (n + 1)))) ∙ sum_by-map-range_with_len_more (λ k. cond (p k) 1 0) (λ k. k) 0 n n (omega arith)
-    ∙ ap (λ (xs : List ℕ). count_by p xs + cond (p n) 1 0) (map-id (range_with_len 0 n))
-
-one_more : (b : Bool) (j : ℕ) → cond b (suc j) 0 ≡ cond b j 0 + cond b 1 0
-one_more true j = omega arith
-one_more false j = refl
-
-none_more : (b : Bool) → cond b zero zero ≡ zero
-none_more true = refl
-none_more false = refl
-
-counted_stretch : (p : ℕ → Bool) (b : Bool) (a j : ℕ) → ((k : ℕ) → a ≤ k → k < a + j → p k ≡ b) → count_by p (range_with_len 0 (a + j)) ≡ count_by p (range_with_len 0 a) + cond b j 0
-counted_stretch p b a zero alike =
-    let here : a + 0 ≡ a = omega arith in
-    let same : count_by p (range_with_len 0 (a + 0)) ≡ count_by p (range_with_len 0 a) = ap (λ n. count_by p (range_with_len 0 n)) here in
-    omega (arith, same, none_more b)
-counted_stretch p b a (suc j) alike =
-    let long : a + suc j ≡ (a + j) + 1 = omega arith in
-    let next : count_by p (range_with_len 0 (a + suc j)) ≡ count_by p (range_with_len 0 ((a + j) + 1)) = ap (λ n. count_by p (range_with_len 0 n)) long in
-    let more : count_by p (range_with_len 0 ((a + j) + 1)) ≡ count_by p (range_with_len 0 (a + j)) + cond b 1 0 = rw (alike (a + j) (omega arith) (omega arith)) at (count_more p (a + j)) in
-    omega (arith, next, more, one_more b j, counted_stretch p b a j (λ k low high. alike k low (omega arith)))
-
 module _ {F : Type 0} {post : F → ℕ → ℕ → Type 0} {last_of : F} {s t : StretchIter F} {x : Bounds} (by : s.last_of ≡ last_of) (next : IsNext post s x t) where
   pub alike : {V : Type 0} (f : ℕ → V) → TellsAlike (post last_of) f → (k : ℕ) → x.lo ≤ k → k ≤ x.hi → f k ≡ f x.lo
   alike f tells k low high =
@@ -77,4 +51,4 @@ module _ {F : Type 0} {post : F → ℕ → ℕ → Type 0} {last_of : F} {s t :
   counted_turn p b tells is =
       let here = next.begins in
       let long : t.from ≡ s.from + (x.hi - x.lo + 1) = omega (arith, here, next.ordered, next.goes_on) in
-      ap (λ n. count_by p (range_with_len 0 n)) long ∙ counted_stretch p b s.from (x.hi - x.lo + 1) (λ k low high. alike p tells k (omega (arith, here)) (omega (arith, here, next.ordered)) ∙ is)
+      ap (λ n. count_by p (range_with_len 0 n)) long ∙ count_alike p b s.from (x.hi - x.lo + 1) (λ k low high. alike p tells k (omega (arith, here)) (omega (arith, here, next.ordered)) ∙ is)

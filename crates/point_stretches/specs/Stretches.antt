@@ -1,5 +1,4 @@
 -- All code points, stretch by stretch.
---
 -- Told post lo hi           a call at lo may tell hi; if it tells a code point before lo, hi is lo
 -- IsNext post s x t         a turn: the stretch x begins where those before it ended, and is told
 -- GivesStretch post s r t   the same; none is left exactly behind the last code point
@@ -7,9 +6,8 @@
 -- TellsAlike post f         what a call tells is not before its code point, and f is the same from there up to it
 -- Gives post f              a call gives what f has
 -- passing p                 how many code points pass p
-use Rattle.std.specs.Prelude.{◌≡◌, ℕ, ◌+◌, ◌<◌, ◌≤◌, max, Bool, List, [], ◌∷◌, Option, count_by}
+use Rattle.std.specs.Prelude.{◌≡◌, ℕ, ◌+◌, ◌<◌, ◌≤◌, max, Bool, List, [], ◌∷◌, Option, count_by, MatchOption}
 use Rattle.std.specs.List.{range_with_len}
-use Rattle.std.specs.Option.{MatchOption}
 use Rattle.ucd_points.specs.Bounds.{Bounds}
 use Rattle.ucd_points.specs.Limits.{point_count}
 use Rattle.point_stretches.specs.declared.stretch_iter.StretchIter.{StretchIter}

@@ -1,20 +1,14 @@
 -- Rows by the numbers of their values.
---
 -- known            a name that has a number is there
--- shown            a row of a span and a value is the one that it shows
 -- numbered_more    one row more, with a name that is there or goes last
 -- numbered_still   no row more, but such a name
 -- on_ok_then       what follows where a call answers
-use Rattle.std.proofs.Common.{◌≡◌, ℕ, zero, suc, Bool, true, false, if◌then◌else◌, ◌||◌, List, [], ◌∷◌, ◌++◌, Some, None, Result, Ok, Err, OnOk, refl, sym, ap, subst, arith}
-use Rattle.std.specs.Prelude.{slice_get}
+use Rattle.std.proofs.Common.{◌≡◌, ℕ, zero, suc, Bool, true, false, if◌then◌else◌, ◌||◌, List, [], ◌∷◌, ◌++◌, Some, None, Result, Ok, Err, OnOk, refl, sym, subst, arith, slice_get, bytes_eq, append-nil}
 use Rattle.std.specs.List.{list_any}
-use Rattle.std.specs.Str.{bytes_eq}
-use Rattle.std.proofs.lemmas.List.{append-nil}
 use Rattle.std.proofs.lemmas.Option.{slice_get_within, same_Some}
 use Rattle.std.proofs.lemmas.Slice.Eq.{bytes_eq-Decides}
 use Rattle.indexmap.proofs.SetLemmas.{AllZip-push}
 use Rattle.release_rows.specs.StoredItems.{ShowsValue}
-use Rattle.source_rows.specs.RowRefs.{value_in}
 use Rattle.source_rows.specs.declared.values.ValueText.{ValueText}
 use Rattle.ucd_facts.specs.declared.row.Row.{Row}
 use Rattle.ucd_facts.specs.declared.row.Row.TheVariants.{Unit as DataLine, Value as ValueLine, Exclusion as ExclusionLine, Fold as FoldLine, Casing as CasingLine, Alias as AliasLine, Missing as MissingLine}
@@ -50,15 +44,6 @@ stays names name k value e = by (list_any (bytes_eq name) names)
     by false = get_more names (name ∷ []) k value e
 
 -- ---- rows
-
-pub shown : (row : Row) (text : ValueText) → ShowsValue (Some text) row → value_row_of row ≡ value_in text ∷ []
-shown (ValueLine row) text e = ap (λ r. r ∷ []) e
-shown (DataLine row) text e = absurd e
-shown (ExclusionLine row) text e = absurd e
-shown (FoldLine row) text e = absurd e
-shown (CasingLine row) text e = absurd e
-shown (AliasLine row) text e = absurd e
-shown (MissingLine row) text e = absurd e
 
 -- of such a row nothing is missing
 pub shown_plain : (row : Row) (text : ValueText) → ShowsValue (Some text) row → missing_row_of row ≡ []

@@ -1,11 +1,9 @@
 -- Numbers in a list of maps.
---
 -- number_at_push        a map at the end: those before it stay
 -- number_at_last        the map at the end
 -- number_at_set         a map put in the place of another
-use Rattle.std.proofs.Common.{◌≡◌, ℕ, zero, suc, ◌<◌, List, [], ◌∷◌, ◌++◌, length, refl, arith, cond}
+use Rattle.std.proofs.Common.{◌≡◌, ℕ, zero, suc, ◌<◌, List, [], ◌∷◌, ◌++◌, length, refl, arith, cond, nat_eq, slice_set}
 use Rattle.std.proofs.Math.Dec.{eqb-suc-suc, eqb-suc-zero, eqb-zero-suc}
-use Rattle.std.specs.Prelude.{nat_eq, slice_set}
 use Rattle.property_aliases.specs.Kinds.{number_at}
 use Rattle.property_aliases.specs.NumberMaps.{number_in}
 use Rattle.property_aliases.specs.declared.number_map.NumberMap.{NumberMap}

@@ -1,21 +1,17 @@
 -- What names mean by numbers and by places that rows give.
-use Rattle.std.proofs.Common.{◌≡◌, ℕ, List, Option, None, ◌++◌, refl, ap, ◌∙◌}
-use Rattle.std.specs.List.{flat_map}
+use Rattle.std.proofs.Common.{◌≡◌, ℕ, List, Option, None, refl, ap, ◌∙◌, flat_map}
 use Rattle.std.specs.Option.{option_map, option_map_or}
-use Rattle.property_aliases.specs.Found.{breaks_in, index_in, listed_in, lone_in, lone_key_in, place_in, property_in, property_key_in, scripts_in, value_in, value_key_in}
+use Rattle.property_aliases.specs.Found.{breaks_in, index_in, listed_in, lone_in, lone_key_in, place_in, property_in, property_key_in, scripts_in, value_in, value_key_in, AreAliasesOf}
 use Rattle.property_aliases.specs.Kinds.{kind_names, kind_of}
 use Rattle.property_aliases.specs.NumberMaps.{index_in_names}
-use Rattle.property_aliases.specs.Properties.{index_at, index_named, property_by, property_key, property_of}
+use Rattle.property_aliases.specs.Properties.{index_named, property_by, property_key, property_of}
 use Rattle.property_aliases.specs.Resolving.{number_of, or_is}
-use Rattle.property_aliases.specs.Sources.{Sources, sources_of}
-use Rattle.property_aliases.specs.Tables.{built_in_names}
+use Rattle.property_aliases.specs.Sources.{Sources}
 use Rattle.property_aliases.specs.Values.{behind, index_of, lone_key, lone_of, rows_for, test_at, value_key, names_for, value_of}
 use Rattle.property_aliases.specs.declared.aliases.Aliases.{Aliases}
 use Rattle.property_aliases.specs.declared.property.Property.{Property}
 use Rattle.property_aliases.specs.declared.property.Property.TheVariants.{Category, Script}
 use Rattle.property_aliases.proofs.PropertyLaws.{kind_names_are}
-use Rattle.property_aliases.specs.Found.{AreAliasesOf}
-use Rattle.property_aliases.specs.Numbers.{AreNumbersOf}
 
 module _ (a : Aliases) (s : Sources) (named : (key : List ℕ) → index_in a key ≡ index_named s key) where
   key_is : (key : List ℕ) → property_key_in a key ≡ property_key s key

@@ -1,10 +1,8 @@
 -- Properties and their places.
---
 -- property_by_index    the property at the place of a property is it
 -- kind_below           the kinds of properties are below 7
 -- kind_names_are       the names of a property's values are those of its kind
-use Rattle.std.proofs.Common.{◌≡◌, ◌<◌, ◌≤◌, ◌+◌, ◌-◌, ℕ, Option, length, refl, ap, ◌∙◌, arith}
-use Rattle.std.specs.Prelude.{unwrap_or}
+use Rattle.std.proofs.Common.{◌≡◌, ◌<◌, ◌≤◌, ◌+◌, ◌-◌, ℕ, Option, length, refl, ap, ◌∙◌, arith, unwrap_or}
 use Rattle.std.proofs.lemmas.Option.{slice_get_past}
 use Rattle.ucd_facts.specs.declared.form.Form.TheVariants.{Nfd, Nfc, Nfkd, Nfkc}
 use Rattle.ucd_facts.specs.declared.property.Core.TheVariants as core

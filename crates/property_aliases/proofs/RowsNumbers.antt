@@ -1,5 +1,4 @@
 -- Numbers of rows.
---
 -- resolved             the first name that a key names, from the numbers of a table and those of rows
 -- rows_number-append   the numbers of rows, and of others behind them
 use Rattle.std.proofs.Common.{◌≡◌, ℕ, List, [], ◌∷◌, ◌++◌, Option, refl, sym, ap, ◌∙◌}

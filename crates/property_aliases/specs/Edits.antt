@@ -1,10 +1,9 @@
 -- What stays of the rows that names are resolved by while files are edited.
---
 -- AreSameBut edited old next   the rows of each file that tells names or values are the same of both, but of the files that were edited
 -- told_by rows                 what names are resolved by, of these rows
 -- HasSameNames a b             the values of both have the same names by the same numbers
 -- AreKeptBut a edited rows     the names are those of rows of which only the edited files have others than these
-use Rattle.std.specs.Prelude.{◌≡◌, false, List}
+use Rattle.std.specs.Prelude.{◌≡◌, false}
 use Rattle.ucd_facts.specs.Facts.{Sources as Rows}
 use Rattle.ucd_points.specs.declared.files.SourceFile.TheVariants.{PropList, Scripts, WordBreakProperty, PropertyAliases, PropertyValueAliases}
 use Rattle.property_aliases.specs.Found.{AreAliasesOf}

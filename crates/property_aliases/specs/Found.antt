@@ -1,5 +1,4 @@
 -- What a table of aliases answers.
---
 -- index_in a key         which property a key names
 -- property_key_in a key  that property
 -- property_in a name     the property that a name names, with or without `is`

@@ -1,5 +1,4 @@
 -- Kinds of properties, by the built-in names of their values.
---
 -- kind_of p                    the kind of a property
 -- kind_names scripts breaks k  the names of the values of kind k
 -- number_at maps k key         the number of a key in map k; None where there is no such map

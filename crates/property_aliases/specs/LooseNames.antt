@@ -1,5 +1,4 @@
 -- Names as the code keeps them.
---
 -- name_bytes n   the name as it is written
 use Rattle.std.specs.Prelude.{ℕ, List}
 use Rattle.property_aliases.specs.declared.loose_name.LooseName.{LooseName}

@@ -1,11 +1,8 @@
 -- Numbers by what counts of names.
---
 -- number_in m key             the number of the names of which this is what counts; None where they have none
 -- found_in direct rows key    the less of the numbers of a key in two maps
 -- index_in_names n key        which property a key names, by a table of the names of properties
-use Rattle.std.specs.Prelude.{ℕ, List, Option}
-use Rattle.std.specs.Str.{bytes_eq}
-use Rattle.std.specs.Option.{option_map}
+use Rattle.std.specs.Prelude.{ℕ, List, Option, bytes_eq, option_map}
 use Rattle.indexmap.specs.IndexMap.{get_by}
 use Rattle.property_aliases.specs.Loose.{loose}
 use Rattle.property_aliases.specs.LooseNames.{name_bytes}

@@ -1,5 +1,4 @@
 -- The values of rows by their numbers.
---
 -- names_in set              the names of a set in order
 -- IsNumbered names r row    the numbered row r has the span of the row, and the number of its value among the names
 -- AreNumbered names rs rows   the same of each of the rows, in order

@@ -1,5 +1,4 @@
 -- Properties by their names. UAX #44, sections 5.1 and 5.8.
---
 -- built_in              the properties that are built in, in order
 -- property_names s      the names of properties in order: two of each that is built in, then those of PropList.txt
 -- index_at place        which property the name at a place of that list is of, counted from 0
@@ -7,8 +6,7 @@
 -- index_named s key     which property the key names: the first; None where it names none
 -- property_key s key    that property
 -- property_of s name    the property that a name names, with or without `is`
-use Rattle.std.specs.Prelude.{ℕ, ◌-◌, ◌/◌, if◌then◌else◌, nat_lt, List, [], ◌∷◌, ◌++◌, map, Option, unwrap_or, slice_get}
-use Rattle.std.specs.Option.{option_map}
+use Rattle.std.specs.Prelude.{ℕ, ◌-◌, ◌/◌, if◌then◌else◌, nat_lt, List, [], ◌∷◌, ◌++◌, map, Option, unwrap_or, slice_get, option_map}
 use Rattle.ucd_facts.specs.Predicates.{core_properties}
 use Rattle.ucd_facts.specs.declared.form.Form.TheVariants.{Nfd, Nfc, Nfkd, Nfkc}
 use Rattle.property_aliases.specs.declared.property.Property.{Property}

@@ -1,7 +1,6 @@
 -- What names mean. UAX #44, section 5.8, "Property and Property Value Aliases".
 --
 -- Of a name only what counts is looked at (Loose); that is the key below. A row of an alias file is its list of names.
---
 -- ties row key b           whether the row has a name that matches the key, and one that matches the name b
 -- names rows b key         whether the key matches the name b, or some row ties them
 -- number_of table rows key   the place of the first name of a table that the key names; None where it names none

@@ -1,17 +1,14 @@
 -- Names are resolved by least numbers.
---
 -- least a b                  the less of two numbers, of which each may be missing
 -- direct table key           the place of the first name of the table that the key matches
 -- row_number f row           the least place to which a name of the row leads, where f leads from a name
 -- put row key number         the number, where the row has a name that the key matches
 -- rows_number f rows key     the least number of a row that has a name that the key matches
 -- number_of_is               the first name that a key names is the least of both
-use Rattle.std.proofs.Common.{◌≡◌, ℕ, suc, ◌+◌, ◌<◌, Bool, true, false, not, cond, ◌&&◌, ◌||◌, List, [], ◌∷◌, ◌++◌, length, take, Option, Some, None, refl, sym, ap, ◌∙◌, arith, inl, inr}
-use Rattle.std.specs.Prelude.{min, position, slice_index_or}
+use Rattle.std.proofs.Common.{◌≡◌, ℕ, suc, ◌+◌, ◌<◌, Bool, true, false, not, cond, ◌&&◌, ◌||◌, List, [], ◌∷◌, ◌++◌, length, take, Option, Some, None, refl, sym, ap, ◌∙◌, arith, inl, inr, min, position, slice_index_or, option_map}
 use Rattle.std.proofs.lemmas.Bool.{cases_lt, lt-ltb, le-ltb}
 use Rattle.std.specs.List.{list_any, prefix_len}
 use Rattle.std.proofs.lemmas.List.{take_more, length-take-le}
-use Rattle.std.specs.Option.{option_map}
 use Rattle.property_aliases.specs.Loose.{loose, is_name}
 use Rattle.property_aliases.specs.Resolving.{ties, number_of}
 

@@ -1,5 +1,4 @@
 -- What names are resolved by: the rows of a release.
---
 -- add_name names n      the names with one more behind them, unless it is there
 -- in_order names        the names in order of first appearance, each once; a name is told by its bytes
 -- alias_of row          the names of a row of an alias file, as the one item of a list; no item for other rows
@@ -18,9 +17,8 @@
 -- Sources               the rows of PropertyAliases.txt and PropertyValueAliases.txt as lists of names, and the numbered
 --                       names: those of PropList.txt, scripts with Unknown as number 0, word breaks with Other as number 0
 -- sources_of release    those of a release now
-use Rattle.std.specs.Prelude.{ℕ, if◌then◌else◌, List, [], ◌∷◌, ◌++◌, fold, map}
+use Rattle.std.specs.Prelude.{ℕ, if◌then◌else◌, List, [], ◌∷◌, ◌++◌, fold, map, bytes_eq}
 use Rattle.std.specs.List.{list_any, flat_map}
-use Rattle.std.specs.Str.{bytes_eq}
 use Rattle.ucd_facts.specs.Values.{default_script, default_word_break}
 use Rattle.ucd_points.specs.declared.files.SourceFile.TheVariants.{PropList, Scripts, WordBreakProperty, PropertyAliases, PropertyValueAliases}
 use Rattle.ucd_facts.specs.declared.row.Row.{Row}

@@ -1,6 +1,5 @@
 -- Built-in names, in order. UAX #44, sections 5.1, 5.7 and 5.8; they are those of PropertyAliases.txt and
 -- PropertyValueAliases.txt.
---
 -- built_in_names        the two names of each property that is built in, the long one first, in the order of Property
 -- category_names        the two letters of the categories, then the groups
 -- decomposition_names   none, canonical, and the tags without brackets

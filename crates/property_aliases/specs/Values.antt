@@ -1,5 +1,4 @@
 -- Values of properties by their names, and names that stand alone. UAX #44, sections 5.7 and 5.8; UTS #35, "Unicode Sets".
---
 -- index_of p             the place of a property among those that are built in and those that are listed behind them
 -- class_names            0 to 254 in decimal
 -- names_for s p          the names of the values of a property in order
@@ -18,8 +17,7 @@
 -- lone_key s key         the test that a key means alone: a General_Category or a group, else a Script, else a property that
 --                        code points have or have not, else Any, ASCII or Assigned
 -- lone_of s name         the same of a name, with or without `is`
-use Rattle.std.specs.Prelude.{ℕ, ◌+◌, ◌-◌, ◌/◌, true, if◌then◌else◌, nat_lt, nat_eq, List, [], ◌∷◌, map, Option, Some, None, slice_get, drop, codes}
-use Rattle.std.specs.Fmt.{decimal}
+use Rattle.std.specs.Prelude.{ℕ, ◌+◌, ◌-◌, ◌/◌, true, if◌then◌else◌, nat_lt, nat_eq, List, [], ◌∷◌, map, Option, Some, None, slice_get, drop, codes, decimal}
 use Rattle.std.specs.List.{flat_map, range_with_len}
 use Rattle.std.specs.Option.{option_eq, option_map, option_map_or}
 use Rattle.ucd_facts.specs.Enumerations.{categories, kinds, quick_values}

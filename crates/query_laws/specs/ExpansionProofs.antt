@@ -6,12 +6,11 @@
 -- same_expansions    the law of the same name
 -- leaves_in_tree     what holds of each point of the tree of c holds of each point of its expansion
 -- list_same, expansions_leaves   the same of the expansions of a list
-use Rattle.std.proofs.Common.{◌≡◌, ℕ, zero, suc, Bool, true, false, cond, nat_lt, List, [], ◌∷◌, ◌++◌, length, Option, Some, None, Ok, Err, if◌then◌else◌, refl, sym, ap, ◌∙◌, subst}
-use Rattle.std.specs.List.{flat_map}
+use Rattle.std.proofs.Common.{◌≡◌, ℕ, zero, suc, Bool, List, [], ◌∷◌, ◌++◌, Option, Some, Ok, if◌then◌else◌, refl, sym, ap, ◌∙◌, subst, flat_map}
+use Rattle.ucd_facts.specs.FactsLemmas.{judged_some}
 use Rattle.ucd_facts.specs.Expansion.{counts, counted, joined, alone_or_joined, expand, full, judged, expansion}
 use Rattle.ucd_facts.specs.Facts.{Facts}
 use Rattle.ucd_model.specs.Forms.{appended, expansions}
-use Rattle.ucd_facts.specs.declared.form.Bad.TheVariants.{V3}
 use Rattle.ucd_facts.specs.Answers.{SameAnswer, Each}
 use Rattle.query_laws.specs.Laws.{SameExpansion, SameExpansions}
 use Rattle.query_laws.specs.ListProofs.{Each-left, Each-right, Each-both, both_parts, appended_parts}
@@ -85,14 +84,6 @@ nothing_left P xs e =
     let same : [] ≡ xs = cc in
     subst (Each P) same tt
 
-judged_list : (r : Option (List ℕ)) (xs : List ℕ) → judged r ≡ Ok xs → r ≡ Some xs
-judged_list None xs e = cc
-judged_list (Some ys) xs e = judged_if (nat_lt 64 (length ys)) ys xs e
-  where
-    judged_if : (b : Bool) (ys xs : List ℕ) → cond b (Err V3) (Ok ys) ≡ Ok xs → ◌≡◌ {A = Option (List ℕ)} (Some ys) (Some xs)
-    judged_if true ys xs e = cc
-    judged_if false ys xs e = cc
-
 module _ (P : ℕ → Type 0) (F : ℕ → Facts) (compat : Bool) where
   members_leaves : (n : ℕ) → ((c : ℕ) (xs : List ℕ) → Each P (tree F compat n c) → expand F compat n c ≡ Some xs → Each P xs)
       → (ms xs : List ℕ) → Each P (flat_map (tree F compat n) ms) → joined (expand F compat n) ms ≡ Some xs → Each P xs
@@ -124,6 +115,6 @@ module _ (P : ℕ → Type 0) (F : ℕ → Facts) (compat : Bool) where
       subst (Each P) same tt
   expansions_leaves (c ∷ s) xs t e =
       let parts = appended_parts (expansion F compat c) (expansions F compat s) xs e in
-      let front = full_leaves c parts.front (Each-left P (whole_tree F compat c) (flat_map (whole_tree F compat) s) t) (judged_list (full F compat c) parts.front parts.first) in
+      let front = full_leaves c parts.front (Each-left P (whole_tree F compat c) (flat_map (whole_tree F compat) s) t) (judged_some (full F compat c) parts.front parts.first) in
       let rest = expansions_leaves s parts.rest (Each-right P (whole_tree F compat c) (flat_map (whole_tree F compat) s) t) parts.second in
       subst (Each P) parts.whole (Each-both P parts.front parts.rest front rest)

@@ -11,8 +11,7 @@
 --                         the rounds ask
 -- AskedIsLocal            the record of a point that has one, and what its derivation asks
 -- PlainAskOwn             a point without a mapping asks its own row, and whether it is a second member, and nothing else
-use Rattle.std.specs.Prelude.{◌≡◌, ℕ, suc, ◌≤◌, Bool, true, List, [], ◌∷◌, Some, Ok, ◌↔◌}
-use Rattle.std.specs.Option.{option_and_then}
+use Rattle.std.specs.Prelude.{◌≡◌, ℕ, suc, ◌≤◌, Bool, true, List, [], ◌∷◌, Some, Ok, ◌↔◌, option_and_then}
 use Rattle.ucd_facts.specs.Expansion.{counted, expand, full}
 use Rattle.ucd_facts.specs.Facts.{Facts}
 use Rattle.ucd_model.specs.FoldRounds.{short_nfkc, short_fold, round, rounds}
@@ -21,9 +20,9 @@ use Rattle.ucd_model.specs.Records.{Record, derived}
 use Rattle.ucd_model.specs.Sameness.{is_in}
 use Rattle.ucd_facts.specs.Uniform.{IsPlain}
 use Rattle.ucd_facts.specs.declared.folding.Folding.{Folding}
-use Rattle.ucd_facts.specs.declared.query.Query.{Query}
 use Rattle.ucd_facts.specs.declared.query.Query.TheVariants.{Row, Second}
 use Rattle.ucd_facts.specs.Answers.{is_asked, SameAnswer, Each}
+use Rattle.ucd_facts.specs.declared.query.Query.{Query}
 use Rattle.query_laws.specs.Questions.{tree, whole_tree, row_queries, asks, round_asks, last_round, rounds_ask, asked}
 
 pub data InTree (F : ℕ → Facts) (compat : Bool) (x : ℕ) : ℕ → Type 0 where

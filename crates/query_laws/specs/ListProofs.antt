@@ -1,5 +1,4 @@
 -- What holds of each member of a list.
---
 -- Each-left, Each-right    of both parts of a joined list
 -- Each-both                of the joined list, where it holds of both parts
 -- Each-if                  of either of two lists
@@ -10,7 +9,7 @@
 -- every                    what holds of everything holds of each
 -- both_parts, appended_parts   where both of two optional lists are there, and where neither of two results is a rule
 use Rattle.std.proofs.Common.{◌≡◌, ℕ, Bool, true, false, cond, List, [], ◌∷◌, ◌++◌, Option, Some, None, Result, Ok, Err, filter, map, refl}
-use Rattle.std.specs.List.{AllByRecursion, list_all, flat_map}
+use Rattle.std.specs.List.{AllByRecursion, flat_map}
 use Rattle.ucd_facts.specs.Expansion.{both}
 use Rattle.ucd_model.specs.Forms.{appended}
 use Rattle.ucd_facts.specs.declared.form.Bad.{Bad as Rule}
@@ -47,10 +46,6 @@ to_all P (x ∷ xs) e = (e.0, to_all P xs e.1)
 pub from_all : {X : Type 0} (P : X → Type 0) (xs : List X) → AllByRecursion P xs → Each P xs
 from_all P [] e = tt
 from_all P (x ∷ xs) e = (e.0, from_all P xs e.1)
-
-pub list_all-same : (p q : ℕ → Bool) (xs : List ℕ) → Each (λ x. p x ≡ q x) xs → list_all p xs ≡ list_all q xs
-list_all-same p q [] e = refl
-list_all-same p q (x ∷ xs) e = rw (e.0, list_all-same p q xs e.1) refl
 
 pub filter-same : (p q : ℕ → Bool) (xs : List ℕ) → Each (λ x. p x ≡ q x) xs → filter p xs ≡ filter q xs
 filter-same p q [] e = refl

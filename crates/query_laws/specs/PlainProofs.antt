@@ -1,10 +1,9 @@
 -- What a code point without a mapping asks.
---
 -- plain_ask_own   the law of the same name
-use Rattle.std.proofs.Common.{◌≡◌, ℕ, zero, suc, Bool, true, false, cond, ◌||◌, not, ◌==◌, List, [], ◌∷◌, ◌++◌, Option, Some, None, Ok, if◌then◌else◌, refl, sym, ap, ◌∙◌, subst, ◌⊎◌, inl, inr}
+use Rattle.std.proofs.Common.{◌≡◌, ℕ, zero, suc, Bool, true, false, cond, ◌||◌, not, ◌==◌, List, [], ◌∷◌, ◌++◌, Option, Some, None, Ok, if◌then◌else◌, refl, sym, ap, ◌∙◌, subst, ◌⊎◌, inl, inr, option_and_then}
 use Rattle.std.specs.List.{flat_map, range_with_len}
-use Rattle.std.specs.Option.{option_and_then}
 use Rattle.std.proofs.lemmas.Bool.{true≢false, or_cases, or_left, or_right}
+use Rattle.ucd_points.specs.PlainProofs.{either}
 use Rattle.ucd_model.specs.CanonicalOrder.{class_of, order}
 use Rattle.ucd_model.specs.Casing.{folded}
 use Rattle.ucd_facts.specs.Composites.{primary}
@@ -17,9 +16,9 @@ use Rattle.ucd_facts.specs.Uniform.{IsPlain}
 use Rattle.ucd_model.specs.Validity.{mappings}
 use Rattle.ucd_facts.specs.declared.folding.Folding.{Folding}
 use Rattle.ucd_facts.specs.declared.folding.Folding.TheVariants.{Full, Simple}
-use Rattle.ucd_facts.specs.declared.query.Query.{Query}
 use Rattle.ucd_facts.specs.declared.query.Query.TheVariants.{Row, Second}
 use Rattle.ucd_facts.specs.Answers.{same_query, is_asked, Each}
+use Rattle.ucd_facts.specs.declared.query.Query.{Query}
 use Rattle.query_laws.specs.Laws.{PlainAskOwn}
 use Rattle.query_laws.specs.ListProofs.{Each-both}
 use Rattle.query_laws.specs.Questions.{tree, whole_tree, row_queries, asks, folding_asks, round_asks_at, last_round, rounds_ask, foldings_ask, pair_queries, composite_asks, asked}
@@ -47,10 +46,6 @@ absorbed false false true e = sym (e refl)
 absorbed false false false e = refl
 
 -- ---- the forms of a point alone
-
-either : {A : Type 0} (b : Bool) (x : A) → cond b x x ≡ x
-either true x = refl
-either false x = refl
 
 module _ (F : ℕ → Facts) (c : ℕ) (p : IsPlain c (F c)) where
   unmapped : (compat : Bool) → counted F compat c ≡ []

@@ -1,5 +1,4 @@
 -- What is asked of small releases, worked by hand after UAX #15 and UAX #44.
---
 -- class    the classes of 0301 and 0307, above (230), of 0323, below (220), of 0327, attached below (202); every other point has
 --          class 0
 -- pair     00E7 is 0063 0327, 1E09 is 00E7 0301, 1E0C is 0044 0323, AC00 is 1100 1161, AC01 is AC00 11A8
@@ -9,8 +8,8 @@ use Rattle.std.proofs.Common.{◌≡◌, ℕ, true, false, [], ◌∷◌, Option
 use Rattle.ucd_model.specs.CanonicalOrder.{class_of}
 use Rattle.ucd_facts.specs.Composites.{pair_of}
 use Rattle.ucd_facts.specs.Facts.{Facts, unassigned}
-use Rattle.ucd_facts.specs.declared.category.Category.TheVariants.{Ll, Lo, Mn}
 use Rattle.ucd_facts.specs.declared.decomposition.Kind.TheVariants.{Compat}
+use Rattle.ucd_facts.specs.declared.category.Category.TheVariants.{Ll, Lo, Mn}
 use Rattle.ucd_facts.specs.declared.decomposition.Tag.TheVariants.{Compat as CompatTag}
 use Rattle.ucd_facts.specs.declared.query.Query.TheVariants.{Row, Pair, Second}
 use Rattle.ucd_facts.specs.Answers.{is_asked}

@@ -1,11 +1,8 @@
 -- Locality of the derivation: facts that answer what it asks alike derive the same record, and ask the same.
---
 -- has_last         the rounds of a point whose foldings have values have a last one, by each folding
 -- asked_is_local   the law of the same name
-use Rattle.std.proofs.Common.{◌≡◌, ℕ, Bool, true, false, cond, ◌&&◌, ◌||◌, not, ◌==◌, List, [], ◌∷◌, ◌++◌, Option, Some, None, Ok, if◌then◌else◌, refl, sym, ap, ◌∙◌, subst, arith}
+use Rattle.std.proofs.Common.{◌≡◌, ℕ, Bool, true, false, cond, ◌&&◌, ◌||◌, not, ◌==◌, List, [], ◌∷◌, ◌++◌, Option, Some, None, Ok, if◌then◌else◌, refl, sym, ap, ◌∙◌, subst, arith, option_and_then, bytes_eq}
 use Rattle.std.specs.List.{flat_map, list_any}
-use Rattle.std.specs.Option.{option_and_then}
-use Rattle.std.specs.Str.{bytes_eq}
 use Rattle.std.proofs.lemmas.Bool.{or_parts}
 use Rattle.ucd_model.specs.Casing.{lower, upper, fold, title, lowers, uppers, titles, folds, casemaps, where_form, changes_when}
 use Rattle.ucd_facts.specs.Composites.{is_canonical, first_has_class_zero, primary, second_of}
@@ -27,9 +24,9 @@ use Rattle.ucd_facts.specs.declared.form.Quick.{Quick}
 use Rattle.ucd_facts.specs.declared.form.Quick.TheVariants.{Yes, No, Maybe}
 use Rattle.ucd_facts.specs.declared.property.Core.{Core}
 use Rattle.ucd_facts.specs.declared.property.Core.TheVariants.{Math, Alphabetic, Lowercase, Uppercase, Cased, CaseIgnorable, ChangesWhenLowercased, ChangesWhenUppercased, ChangesWhenTitlecased, ChangesWhenCasefolded, ChangesWhenCasemapped, IdStart, IdContinue, XidStart, XidContinue, DefaultIgnorableCodePoint, GraphemeExtend, GraphemeBase, GraphemeLink}
-use Rattle.ucd_facts.specs.declared.query.Query.{Query}
 use Rattle.ucd_facts.specs.declared.query.Query.TheVariants.{Row, Second}
 use Rattle.ucd_facts.specs.Answers.{SameAnswer, Each}
+use Rattle.ucd_facts.specs.declared.query.Query.{Query}
 use Rattle.query_laws.specs.ExpansionProofs.{SameRows, rows_same, full_same}
 use Rattle.query_laws.specs.FormProofs.{form_same, tree_rows, decomposed_rows, composed_rows}
 use Rattle.query_laws.specs.Laws.{SameForm, SameFolding, AskedIsLocal}

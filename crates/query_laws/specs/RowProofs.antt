@@ -1,13 +1,12 @@
 -- What is made of the facts of the members of a list is the same where these are.
---
 -- list_any-same, where_same   a test of some member, and of a list that is there
 -- lacks_same                  whether a mapping has a member without a row
 -- zero_class_same, excludes_same, composite_same, hidden_same   what is asked of a composite's mapping
 -- lower_same, upper_same, title_same, changed_same, casemaps_same   case mappings, and whether they change the list
 -- continues_same, starts_same   whether the list continues or starts an identifier
-use Rattle.std.proofs.Common.{◌≡◌, ℕ, Bool, true, false, cond, ◌&&◌, not, ◌==◌, List, [], ◌∷◌, ◌++◌, Result, Ok, Err, refl, sym, ap, ◌∙◌}
+use Rattle.std.proofs.Common.{◌≡◌, ℕ, Bool, true, false, cond, ◌&&◌, not, ◌==◌, List, [], ◌∷◌, ◌++◌, Result, Ok, Err, refl, sym, ap, ◌∙◌, bytes_eq}
 use Rattle.std.specs.List.{flat_map, list_any}
-use Rattle.std.specs.Str.{bytes_eq}
+use Rattle.ucd_model.specs.MemberProofs.{list_all-same}
 use Rattle.ucd_model.specs.Casing.{lower_of, upper_of, title_of, lower, upper, title, changes, casemaps, where_form}
 use Rattle.ucd_facts.specs.Composites.{first_has_class_zero}
 use Rattle.ucd_facts.specs.Facts.{Facts, image_points}
@@ -18,7 +17,7 @@ use Rattle.ucd_model.specs.Validity.{lacks_row, composite_of, is_other}
 use Rattle.ucd_facts.specs.declared.form.Bad.{Bad as Rule}
 use Rattle.ucd_facts.specs.Answers.{SameAnswer, Each}
 use Rattle.query_laws.specs.ExpansionProofs.{SameRows}
-use Rattle.query_laws.specs.ListProofs.{Each-left, Each-right, Each-to, list_all-same, flat_map-same}
+use Rattle.query_laws.specs.ListProofs.{Each-left, Each-right, Each-to, flat_map-same}
 use Rattle.query_laws.specs.Questions.{pair_queries}
 
 pub list_any-same : {X : Type 0} (p q : X → Bool) (xs : List X) → Each (λ x. p x ≡ q x) xs → list_any p xs ≡ list_any q xs

@@ -1,5 +1,4 @@
 -- Proofs of the laws of turns.
---
 -- others_stay, collected_are_dependants, collected_are_counted, next_is_valid, next_is_broken, next_keeps_asked   the laws of the
 --   same names
 use Rattle.std.proofs.Common.{◌≡◌, ℕ, ◌<◌, Bool, true, false, nat_lt, List, [], ◌∷◌, Err, refl, sym, ap, ◌∙◌, arith, inl, inr}
@@ -13,8 +12,8 @@ use Rattle.ucd_model.specs.Sameness.{is_in}
 use Rattle.ucd_model.specs.ValidityLaws.{HasRecord, IsLeastBroken}
 use Rattle.ucd_model.specs.ValidityProofs.{broken_is_least}
 use Rattle.ucd_facts.specs.declared.form.Broken.{Broken}
-use Rattle.ucd_facts.specs.declared.query.Query.{Query}
 use Rattle.ucd_facts.specs.Answers.{same_query, is_asked, SameAnswer, Each}
+use Rattle.ucd_facts.specs.declared.query.Query.{Query}
 use Rattle.ucd_facts.specs.AnswerProofs.{queries_are_told}
 use Rattle.query_laws.specs.Questions.{asked}
 use Rattle.query_laws.specs.RecordProofs.{asked_is_local}

@@ -10,7 +10,6 @@
 -- IsWithinDependants F G n   n is at most the number of dependants
 -- IsTurn F G A Q points    before, all code points have their records, and what they ask is kept; Q are the questions whose
 --                          answers change, and the points are those that ask one of them
---
 -- OthersStay               in a turn each other code point has the same record, and asks the same
 -- CollectedAreDependants   the points are just the dependants
 -- CollectedAreCounted      and their number is at most that of the dependants
@@ -27,8 +26,8 @@ use Rattle.ucd_model.specs.Sameness.{is_in}
 use Rattle.ucd_model.specs.Validity.{first_broken}
 use Rattle.ucd_model.specs.ValidityLaws.{HasRecord, IsValid}
 use Rattle.ucd_facts.specs.declared.form.Broken.{Broken}
-use Rattle.ucd_facts.specs.declared.query.Query.{Query}
 use Rattle.ucd_facts.specs.Answers.{is_asked, SameAnswer, TellsChanges}
+use Rattle.ucd_facts.specs.declared.query.Query.{Query}
 use Rattle.query_laws.specs.Questions.{asked}
 
 abbrev pub SameQueries : (P Q : List Query) → Type 0

@@ -1,8 +1,6 @@
 -- The laws of the quick checks. UAX #15, section 9.
---
 -- IsMapped F c      where c has a mapping of some kind, that has a member; in a release it always has
 -- IsUnchanged F c   each of the four forms of c alone is c alone
---
 -- KindsTell         the kind tells the quick checks of NFD and NFKD, whatever the form is
 -- UnchangedIsYes    a point that no form changes, and that is no second member, has Yes in each quick check
 -- NoIsOther         No means that the form of the point is another list

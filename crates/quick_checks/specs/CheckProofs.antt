@@ -1,5 +1,4 @@
 -- Proofs of the laws of the quick checks.
---
 -- decomposed_alone        where the mapping of c does not count, the decomposition of c alone is c alone
 -- composed_alone          where it does not, what is composed of that decomposition is c alone
 -- quick_nfd, quick_nfkd   the quick checks of NFD and NFKD are decomposed_check, for canonical mappings and for all
@@ -7,18 +6,17 @@
 -- check_expanded          where c has an expansion, decomposed_check is told by the kind of c
 -- composed_check_alone    where the mapping of c does not count, composed_check is quick_composed of c alone
 -- kinds_tell, unchanged_is_yes, no_is_other, others_are_same   the laws of the same names
-use Rattle.std.proofs.Common.{◌≡◌, ℕ, Bool, true, false, cond, ◌==◌, List, [], ◌∷◌, Result, Ok, Err, refl, sym, ap, ◌∙◌, subst}
+use Rattle.std.proofs.Common.{◌≡◌, ℕ, Bool, true, false, cond, ◌==◌, List, [], ◌∷◌, Result, Ok, Err, refl, sym, ap, ◌∙◌, subst, bytes_eq}
 use Rattle.std.specs.List.{AllByRecursion as Each}
-use Rattle.std.specs.Str.{bytes_eq}
 use Rattle.std.proofs.lemmas.Slice.Eq.{bytes_eq-Decides}
 use Rattle.ucd_facts.specs.Facts.{Facts, is_plain}
+use Rattle.ucd_facts.specs.declared.decomposition.Kind.{Kind}
+use Rattle.ucd_facts.specs.declared.decomposition.Kind.TheVariants.{Plain}
 use Rattle.ucd_model.specs.CanonicalOrder.{class_of, order}
 use Rattle.ucd_facts.specs.Composites.{is_canonical, second_of}
 use Rattle.ucd_facts.specs.Expansion.{counts, counted, expansion}
 use Rattle.ucd_model.specs.Forms.{appended, expansions, in_order, decomposed, composed}
 use Rattle.ucd_model.specs.QuickChecks.{form_of, quick_composed, quick_given, quick_where, quick}
-use Rattle.ucd_facts.specs.declared.decomposition.Kind.{Kind}
-use Rattle.ucd_facts.specs.declared.decomposition.Kind.TheVariants.{Plain}
 use Rattle.ucd_facts.specs.declared.form.Bad.{Bad as Rule}
 use Rattle.ucd_facts.specs.declared.form.Form.TheVariants.{Nfd, Nfc, Nfkd, Nfkc}
 use Rattle.ucd_facts.specs.declared.form.Quick.{Quick}

@@ -6,10 +6,10 @@
 -- composed_check F compat c       the quick check of the composed decomposition, or that rule
 use Rattle.std.specs.Prelude.{ℕ, Bool, [], ◌∷◌, Result, if◌then◌else◌}
 use Rattle.ucd_facts.specs.Facts.{Facts}
+use Rattle.ucd_facts.specs.declared.decomposition.Kind.{Kind}
 use Rattle.ucd_facts.specs.Expansion.{counts}
 use Rattle.ucd_model.specs.Forms.{decomposed, composed}
 use Rattle.ucd_model.specs.QuickChecks.{quick_composed, quick_where}
-use Rattle.ucd_facts.specs.declared.decomposition.Kind.{Kind}
 use Rattle.ucd_facts.specs.declared.form.Bad.{Bad as Rule}
 use Rattle.ucd_facts.specs.declared.form.Quick.{Quick}
 use Rattle.ucd_facts.specs.declared.form.Quick.TheVariants.{Yes, No}

@@ -1,6 +1,5 @@
 -- What the changes are after a span was given a value: those before it, at most two of its own, and those behind it.
-use Rattle.std.proofs.Common.{◌≡◌, ℕ, suc, ◌<◌, ◌≤◌, Bool, true, false, List, [], ◌∷◌, ◌++◌, length, take, drop, refl, cond, ltb, arith, Option, None, Some}
-use Rattle.std.specs.Option.{option_to_list}
+use Rattle.std.proofs.Common.{◌≡◌, ℕ, suc, ◌<◌, ◌≤◌, Bool, true, false, List, [], ◌∷◌, ◌++◌, length, take, drop, refl, cond, ltb, arith, Option, None, Some, option_to_list}
 use Rattle.std.proofs.lemmas.Bool.Decides.{nat_tests}
 use Rattle.range_table.specs.declared.change.Change.{Change}
 use Rattle.range_table.specs.Layout.{Follow, value_at, count_before, value_of_run}

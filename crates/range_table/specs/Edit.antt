@@ -1,9 +1,7 @@
 -- Edits of the changes of a layout.
---
 -- edited e xs                      xs with the changes from e.from up to e.behind replaced by those of e
 -- SetsSpan eq d xs lo hi v d' xs'  the layout d', xs' is the layout d, xs with the value v from lo to hi
-use Rattle.std.specs.Prelude.{◌≡◌, ℕ, ◌<◌, Bool, List, ◌++◌, take, drop}
-use Rattle.std.specs.Option.{option_to_list}
+use Rattle.std.specs.Prelude.{◌≡◌, ℕ, ◌<◌, Bool, List, ◌++◌, take, drop, option_to_list}
 use Rattle.range_table.specs.declared.change.Change.{Change}
 use Rattle.range_table.specs.declared.edit.Edit.{Edit}
 use Rattle.range_table.specs.Values.{with_span}

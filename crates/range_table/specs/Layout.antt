@@ -1,5 +1,4 @@
 -- The values of all code points, kept as the first value and the places where the value changes.
---
 -- Layout                    the value of point 0, and the changes
 -- value_at d xs c           the value at c, where it is d up to the first change of xs
 -- values l c                the value at c of a layout

@@ -1,5 +1,4 @@
 -- Run tables, as contracts see them.
---
 -- values_now t     the values now
 -- values_next t    the values next: those that were prepared, or else those of now
 use Rattle.std.specs.Prelude.{ℕ, unwrap_or}

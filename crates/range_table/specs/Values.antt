@@ -1,5 +1,4 @@
 -- The values of all code points, as functions of the code point.
---
 -- point_count-is        there are 1114112 code points
 -- SameValues f g        f and g agree at each code point (above the last they may differ)
 -- with_span f lo hi v   v from lo to hi, both of them in it, and f elsewhere

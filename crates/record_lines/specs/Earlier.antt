@@ -1,5 +1,4 @@
 -- The records of all code points as they were, and how they follow a bench.
---
 -- earlier_record e c       the record of c that e keeps
 -- updated points S E c     the record of c: that of S if c is one of the points, else that of E
 -- differing R S            the code points, ascending, of which the records R and S differ

@@ -1,6 +1,5 @@
 -- The text of some code points, with the values of DerivedCoreProperties.txt and DerivedNormalizationProps.txt of Unicode 15.1.0, and
 -- of UnicodeData.txt.
---
 -- has ps p          p is one of the core properties ps
 -- folded points     a record with this folding, simple and full, and otherwise of an unassigned code point
 -- capital_a, capital_a_grave, soft_hyphen, ypogegrammeni    the records of 0041, 00C0, 00AD and 0345

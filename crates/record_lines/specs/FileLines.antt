@@ -1,12 +1,10 @@
 -- Lines of a file with where they stand. Lines are counted from 1 over all lines of a file, comments and empty lines among them.
 -- UAX #44, section 4.2.
---
 -- line_text file n found       where the file lies, ` line `, the number, `: `, the content that was found, and LF; nothing for None
 -- numbered_line file lines n   these of the line with this number, where these are the contents of the file's lines; nothing if there
 --                              is no such line
 -- place_lines file lines p     those of the line at which a row stands, or of the two lines of a range
-use Rattle.std.specs.Prelude.{ℕ, ◌+◌, ◌-◌, List, [], ◌++◌, Option, Some, None, slice_get, if◌then◌else◌, codes}
-use Rattle.std.specs.Fmt.{decimal}
+use Rattle.std.specs.Prelude.{ℕ, ◌+◌, ◌-◌, List, [], ◌++◌, Option, Some, None, slice_get, if◌then◌else◌, codes, decimal}
 use Rattle.ucd_points.specs.SourceFiles.{source_path}
 use Rattle.ucd_points.specs.declared.files.SourceFile.{SourceFile}
 use Rattle.ucd_model.specs.DerivedText.{line_end}

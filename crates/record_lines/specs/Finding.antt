@@ -1,5 +1,4 @@
 -- Lines of a text, found by their places.
---
 -- Found                        the contents of the lines of a text, and how many of them were passed
 -- IsBehind bytes passed left   these are the lines of the text behind the first ones that were passed
 use Rattle.std.specs.Prelude.{◌≡◌, ℕ, ◌+◌, ◌≤◌, List, length, drop, map}

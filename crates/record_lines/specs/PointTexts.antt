@@ -1,5 +1,4 @@
 -- What is told of code points.
---
 -- with_more more told   what is told of a code point, and behind it what `more` gives of the code point
 use Rattle.std.specs.Prelude.{ℕ, List, ◌++◌}
 use Rattle.record_lines.specs.declared.point_text.PointText.{PointText}

@@ -1,6 +1,5 @@
 -- The text of a record, and of what differs between two records of one code point. Properties come in the order of the derived
 -- files and of their sections, each by the name that its section has there. UAX #44, section 5.3.
---
 -- value_line R l          the line of a property: its name, ` ; `, its value in the record R, and LF
 -- file_values R file      the lines of the properties of a derived file, in order
 -- record_text c R         `# ` and the code point, and then the lines of all properties
@@ -8,9 +7,7 @@
 -- change_line c R S l     the code point, ` ; ` and that step, where the two values differ; else nothing
 -- file_changes c R S file   these lines for the properties of a derived file, in order
 -- change_text c R S       these lines for all properties; nothing where the records R and S have equal values
-use Rattle.std.specs.Prelude.{ℕ, List, [], ◌++◌, if◌then◌else◌, codes}
-use Rattle.std.specs.List.{flat_map}
-use Rattle.std.specs.Str.{bytes_eq}
+use Rattle.std.specs.Prelude.{ℕ, List, [], ◌++◌, if◌then◌else◌, codes, flat_map, bytes_eq}
 use Rattle.ucd_points.specs.HexText.{hex_text}
 use Rattle.ucd_facts.specs.Enumerations.{derived_files}
 use Rattle.ucd_model.specs.DerivedText.{line_end}

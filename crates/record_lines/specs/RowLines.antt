@@ -1,5 +1,4 @@
 -- The rows of a release that speak of a code point, as they stand in the lines of their files. UAX #44, section 4.2.
---
 -- is_range row                 the row stands in two lines: a range of UnicodeData.txt. Every other row stands in one
 -- place_of numbered            where a row stands, given with the number of its first line
 -- speaking c rows              of rows with the numbers of their first lines, those that speak of the code point, in order: it is one
@@ -8,14 +7,11 @@
 -- if_speaks row text c         a text, if a row speaks of the code point; else nothing
 -- file_rows_text items file c  the lines of the rows of these items that speak of the code point, in the order of the file
 -- rows_text files c            those of all source files, file by file
-use Rattle.std.specs.Prelude.{ℕ, Bool, false, List, [], filter, map, if◌then◌else◌}
-use Rattle.std.specs.List.{flat_map}
+use Rattle.std.specs.Prelude.{ℕ, Bool, false, List, [], filter, map, if◌then◌else◌, flat_map}
 use Rattle.ucd_points.specs.Lines.{contents}
 use Rattle.ucd_points.specs.SourceFiles.{source_files}
-use Rattle.ucd_points.specs.declared.files.SourceFile.{SourceFile}
-use Rattle.ucd_facts.specs.declared.row.Row.{Row}
 use Rattle.ucd_facts.specs.declared.row.Row.TheVariants.{Unit as DataLine}
-use Rattle.release_rows.specs.FileItems.{FileItem, bytes_of}
+use Rattle.release_rows.specs.FileItems.{FileItem, bytes_of, SourceFile, Row}
 use Rattle.release_rows.specs.OperationLaws.{speaks_of}
 use Rattle.release_rows.specs.Releases.{items_at, rows_at}
 use Rattle.record_lines.specs.FileLines.{place_lines}

@@ -1,5 +1,4 @@
 -- The value of each property in a record, in the words of the derived files. UAX #44, sections 4.2.10, 5.3 and 5.7.
---
 -- binary_value b     `Y` where the property holds, else `N`
 -- quick_value q      `Y`, `N` or `M`, for Yes, No and Maybe
 -- kind_value kind    `canonical`, or the tag without its brackets; `none` for Plain
@@ -7,8 +6,7 @@
 -- image_value i      the code points; `<code point>` for Same, the code point itself alone
 -- value_text l R     the value in the record R of the property that l stands for: a category by its two letters, Cn among them, and
 --                    a class in decimal, 0 among them. The default value has its text too
-use Rattle.std.specs.Prelude.{ℕ, Bool, true, false, List, [], ◌∷◌, codes}
-use Rattle.std.specs.Fmt.{decimal}
+use Rattle.std.specs.Prelude.{ℕ, Bool, true, false, List, [], ◌∷◌, codes, decimal}
 use Rattle.ucd_facts.specs.Names.{category_code, tag_name}
 use Rattle.ucd_model.specs.Records.{Record}
 use Rattle.ucd_facts.specs.RowTexts.{mapping_text}

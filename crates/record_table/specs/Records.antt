@@ -1,5 +1,4 @@
 -- The records of all code points, now and next.
---
 -- record_now table c           the record of c now, which the table holds at the place of c
 -- record_next table c          the record of c next
 -- place_now table c            the place at which the record of c now is held

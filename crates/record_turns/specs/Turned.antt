@@ -22,8 +22,8 @@ use Rattle.ucd_model.specs.Records.{Record, record_at}
 use Rattle.ucd_model.specs.Sameness.{same_record}
 use Rattle.ucd_model.specs.Validity.{first_broken}
 use Rattle.ucd_model.specs.ValidityLaws.{IsValid}
-use Rattle.ucd_facts.specs.declared.query.Query.{Query}
 use Rattle.ucd_facts.specs.Answers.{TellsChanges}
+use Rattle.ucd_facts.specs.declared.query.Query.{Query}
 use Rattle.query_laws.specs.Questions.{asked}
 use Rattle.query_laws.specs.Turns.{IsWithinDependants, SameQueries, asks_one}
 use Rattle.record_turns.specs.declared.again_stop.AgainStop.{AgainStop}

@@ -1,11 +1,9 @@
 -- The lines of a series, one more at a time.
---
 -- range_more n         the numbers below n + 1 are those below n, and n behind them
 -- series_none line     no number has no line
 -- series_more line n   one number more has one line more
-use Rattle.std.proofs.Common.{◌≡◌, ◌∙◌, ℕ, ◌+◌, List, [], ◌∷◌, ◌++◌, refl, sym, ap, arith}
+use Rattle.std.proofs.Common.{◌≡◌, ◌∙◌, ℕ, ◌+◌, List, [], ◌∷◌, ◌++◌, refl, sym, ap, arith, append-nil, map-id}
 use Rattle.std.specs.List.{range_with_len, flat_map}
-use Rattle.std.proofs.lemmas.List.{append-nil, map-id}
 use Rattle.std.proofs.lemmas.List.Concat.{flat_map-append}
 use Rattle.std.proofs.lemmas.List.FromFn.{map-range_with_len_more}
 use Rattle.release_maker.specs.MadeTexts.{series, line_text}

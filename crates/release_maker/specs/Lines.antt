@@ -1,5 +1,4 @@
 -- The series of the code, as the definitions name them.
---
 -- line_of series i   the i-th line of a series
 use Rattle.std.specs.Prelude.{ℕ, List}
 use Rattle.release_maker.specs.MadeTexts.{base_line, composite_line, compat_line, command_line}

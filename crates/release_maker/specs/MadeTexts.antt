@@ -1,5 +1,4 @@
 -- The texts of a release that is made from a number, and of a script for it. The release is this project's own.
---
 -- base i               the i-th code point of the first series, counted from 0: 20000 (hexadecimal) and on
 -- composite i          of the second series: 30000 and on
 -- compat i             of the third series: 40000 and on

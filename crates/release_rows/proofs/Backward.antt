@@ -1,8 +1,7 @@
 -- Items that are taken out and put in one by one, and copied.
-use Rattle.std.proofs.Common.{◌≡◌, ℕ, suc, ◌+◌, ◌-◌, ◌<◌, ◌≤◌, ◌^◌, List, [], ◌∷◌, ◌++◌, length, map, take, drop, get_or, refl, sym, ap, subst, ◌∙◌, arith}
-use Rattle.std.specs.List.{All, insert, remove}
+use Rattle.std.proofs.Common.{◌≡◌, ℕ, suc, ◌+◌, ◌-◌, ◌<◌, ◌≤◌, ◌^◌, List, [], ◌∷◌, ◌++◌, length, map, take, drop, get_or, sym, ap, subst, ◌∙◌, arith, All, insert, remove}
 use Rattle.std.proofs.Math.Seq.{drop-append-add}
-use Rattle.std.proofs.lemmas.List.{append_assoc, drop-drop, drop-map, drop_at, drop_more, length-take-le, map-append, take-map, take_at, take_more}
+use Rattle.std.proofs.lemmas.List.{append_assoc, drop-drop, drop_at, drop_more, length-take-le, map-append, take_at, take_more}
 use Rattle.std.proofs.lemmas.List.Edits.{length-insert, length-remove}
 use Rattle.std.proofs.lemmas.List.Elements.{All-append, All-cons, All-drop, All-push, All-take}
 use Rattle.ucd_points.specs.declared.files.SourceFile.{SourceFile}
@@ -50,9 +49,6 @@ longer xs ys at e within is =
     let size = ap length is in
     let more = length-insert xs at e within in
     omega arith
-
-pub map_insert : {A B : Type 0} (f : A → B) (xs : List A) (i : ℕ) (y : A) → map f (insert xs i y) ≡ insert (map f xs) i (f y)
-map_insert f xs i y = rw (map-append f (take i xs) (y ∷ drop i xs), take-map f i xs, drop-map f i xs) refl
 
 -- an entry next is put in, and the text grew
 pub kept_inserted : (file : SourceFile) (text new : List ℕ) (added later at : ℕ) (entry : Spanned Stretch) (old next : PartLists (Spanned Stretch)) → Grew text new → IsKeptFile file text added old → now_in next ≡ now_in old → next_in next ≡ insert (next_in old) at entry → at ≤ length (next_in old) → IsStored file new entry → later ≡ added + 1 → later < 2 ^ 32 → IsKeptFile file new later next

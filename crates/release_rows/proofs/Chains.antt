@@ -1,15 +1,13 @@
 -- Rows each of which ends before the next one do not meet, in whatever order they come.
-use Rattle.std.proofs.Common.{◌≡◌, suc, ◌+◌, true, false, ◌&&◌, leb, IsTrue, List, [], ◌∷◌, refl, sym, ap, ◌∙◌, arith}
+use Rattle.std.proofs.Common.{◌≡◌, suc, ◌+◌, true, false, ◌&&◌, leb, IsTrue, List, [], ◌∷◌, refl, sym, ap, ◌∙◌, arith, IsPermutation, Ordering, Less, Equal, Greater}
 use Rattle.std.specs.List.{All, AllByRecursion, IsDistinct}
-use Rattle.std.specs.List.Sorted.{IsPermutation}
-use Rattle.std.specs.Ordering.{is_le, is_lt, is_gt, ordering_reverse}
+use Rattle.std.specs.Ordering.{is_le, is_gt, ordering_reverse}
 use Rattle.std.specs.BTreeMap.Comparable.{le_lt_trans}
-use Rattle.std.specs.declared.cmp.Ordering.{Ordering}
-use Rattle.std.specs.declared.cmp.Ordering.TheVariants.{Less, Equal, Greater}
 use Rattle.std.proofs.lemmas.Bool.{and_parts, leb-true, false_from_ne_true}
 use Rattle.std.proofs.lemmas.List.Elements.{All-head, All-tail}
 use Rattle.std.proofs.lemmas.List.Sorted.{IsPermutation-sym, All-permutation}
 use Rattle.std.proofs.lemmas.Map.Keys.{IsDistinct-IsPermutation}
+use Rattle.ucd_points.specs.PlainProofs.{lt_is}
 use Rattle.source_rows.specs.Keys.{same_texts}
 use Rattle.release_rows.specs.Chains.{IsChain, IsOrderedPlace, end_place, ends_before, places_meet}
 use Rattle.release_rows.specs.Places.{names_in, place_cmp}
@@ -17,11 +15,6 @@ use Rattle.release_rows.specs.declared.keyed_extent.KeyedExtent.{KeyedExtent}
 use Rattle.release_rows.proofs.PlaceOrder.{place_total, is_before}
 use Rattle.release_rows.proofs.RowsApart.{spans_swap, texts_swap}
 use Rattle.release_rows.proofs.Texts.{texts_same}
-
-lt_is : (o : Ordering) → is_lt o ≡ true → o ≡ Less
-lt_is Less h = refl
-lt_is Equal h = absurd cc
-lt_is Greater h = absurd cc
 
 le_is : (o : Ordering) → is_gt o ≡ false → IsTrue (is_le o)
 le_is Less h = refl

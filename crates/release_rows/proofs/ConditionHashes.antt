@@ -1,8 +1,6 @@
 -- The hash of conditions, as a loop over their bytes makes it.
-use Rattle.std.proofs.Common.{◌≡◌, ℕ, ◌+◌, ◌*◌, ◌%◌, Bool, true, false, List, [], ◌∷◌, ◌++◌, if◌then◌else◌, refl, sym, ap, ◌∙◌}
-use Rattle.std.specs.Prelude.{codes, filter}
+use Rattle.std.proofs.Common.{◌≡◌, ℕ, ◌+◌, ◌*◌, ◌%◌, Bool, true, false, List, [], ◌∷◌, ◌++◌, if◌then◌else◌, refl, sym, ap, ◌∙◌, codes, filter, append-nil}
 use Rattle.std.specs.List.{join_with_byte, onto_first, slice_split}
-use Rattle.std.proofs.lemmas.List.{append-nil}
 use Rattle.ucd_points.specs.Lines.{is_blank}
 use Rattle.ucd_facts.specs.Mappings.{is_some_bytes, spaced_words, words}
 use Rattle.source_rows.specs.Keys.{condition_names}

@@ -1,14 +1,11 @@
 -- The tag of conditions: that of the first word is that of all words with one space between them.
-use Rattle.std.proofs.Common.{◌≡◌, ℕ, ◌-◌, ◌==◌, Bool, true, false, List, [], ◌∷◌, ◌++◌, length, map, take, zero, suc, refl, sym, ap, ◌∙◌, subst, one-add, arith}
-use Rattle.std.specs.Prelude.{filter}
+use Rattle.std.proofs.Common.{◌≡◌, ℕ, ◌-◌, ◌==◌, Bool, true, false, List, [], ◌∷◌, ◌++◌, length, map, take, zero, suc, refl, sym, ap, ◌∙◌, subst, one-add, arith, filter, append-nil}
 use Rattle.std.specs.List.{join_with_byte, slice_split, suffix_len}
 use Rattle.std.proofs.lemmas.Bool.Decides.{nat_tests}
-use Rattle.std.proofs.lemmas.List.{append-nil}
 use Rattle.ucd_points.specs.Fields.{field, fields, is_semicolon, trim, trim_start, uncommented}
 use Rattle.ucd_points.specs.Lines.{is_blank}
-use Rattle.ucd_points.specs.declared.files.SourceFile.{SourceFile}
 use Rattle.ucd_facts.specs.Mappings.{is_some_bytes, spaced_words, words}
-use Rattle.source_rows.specs.Keys.{condition_names}
+use Rattle.source_rows.specs.Keys.{condition_names, SourceFile}
 use Rattle.release_rows.specs.Tags.{behind_first, digit, first_digit, is_inner, number}
 
 -- ---- what follows a word does not count

@@ -6,13 +6,11 @@ use Rattle.std.proofs.lemmas.List.Folds.{list_any-append}
 use Rattle.ucd_lines.specs.Laws.{IsLine, AreLines}
 use Rattle.ucd_points.specs.Lines.{LineItem, LineEnding, unended, lf, cr_lf, ending_bytes, item_bytes, is_blank, is_lf, is_comment, unindented, holds_line_feed}
 use Rattle.ucd_points.specs.MissingLines.{takes_missing, behind_hash, missing_rest, is_missing, is_trivia}
-use Rattle.ucd_points.specs.declared.files.SourceFile.{SourceFile}
 use Rattle.ucd_points.specs.declared.files.SourceFile.TheVariants.{UnicodeData}
-use Rattle.ucd_facts.specs.declared.row.Row.{Row}
 use Rattle.source_rows.specs.Lines.{is_first_line}
 use Rattle.source_rows.specs.Trivia.{RowsAreNoTrivia}
 use Rattle.release_rows.specs.Cuts.{IsCut, AreCut}
-use Rattle.release_rows.specs.FileItems.{FileItem}
+use Rattle.release_rows.specs.FileItems.{FileItem, SourceFile, Row}
 use Rattle.release_rows.specs.Keys.{same_key, overlaps}
 use Rattle.release_rows.specs.Loading.{file_item}
 use Rattle.release_rows.specs.OperationLaws.{OperationsKeepCuts}

@@ -1,13 +1,10 @@
 -- What is next once an operation has put, changed or taken out an entry.
-use Rattle.std.proofs.Common.{◌≡◌, ℕ, suc, ◌+◌, ◌<◌, ◌≤◌, ◌^◌, List, ◌++◌, length, map, set, take, drop, Result, Ok, Err, refl, sym, subst, arith}
-use Rattle.std.specs.List.{All, remove}
+use Rattle.std.proofs.Common.{◌≡◌, ℕ, suc, ◌+◌, ◌<◌, ◌≤◌, ◌^◌, List, ◌++◌, length, map, set, take, drop, Result, Ok, Err, refl, sym, subst, arith, All, remove}
 use Rattle.std.proofs.lemmas.List.{drop-map, length-append, length-drop, length-set, length-take, map-append, take-map}
 use Rattle.std.proofs.lemmas.List.Elements.{All-append, All-drop, All-set, All-take}
-use Rattle.ucd_points.specs.declared.files.SourceFile.{SourceFile}
-use Rattle.ucd_facts.specs.declared.row.Row.{Row}
 use Rattle.part_list.specs.Parts.{PartLists, now_in, next_in}
 use Rattle.part_list.specs.declared.spanned.Spanned.{Spanned}
-use Rattle.release_rows.specs.FileItems.{FileItem}
+use Rattle.release_rows.specs.FileItems.{FileItem, SourceFile, Row}
 use Rattle.release_rows.specs.Finding.{FindsGap, items_of}
 use Rattle.release_rows.specs.Operations.{added_item, edited, place_in, put_in}
 use Rattle.release_rows.specs.Searches.{Sought, IsSoughtRow}

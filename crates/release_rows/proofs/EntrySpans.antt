@@ -2,16 +2,14 @@
 use Rattle.std.proofs.Common.{◌≡◌, ℕ, ◌<◌, ◌≤◌, Bool, true, false, List, [], ◌∷◌, Option, Some, None, is_some, refl, arith}
 use Rattle.ucd_points.specs.Bounds.{Bounds}
 use Rattle.ucd_facts.specs.RowValues.{RowOk}
-use Rattle.ucd_points.specs.declared.files.SourceFile.{SourceFile}
 use Rattle.ucd_points.specs.declared.files.SourceFile.TheVariants.{UnicodeData, PropList, Scripts, WordBreakProperty, CompositionExclusions, CaseFolding, SpecialCasing, PropertyAliases, PropertyValueAliases}
-use Rattle.ucd_facts.specs.declared.row.Row.{Row}
 use Rattle.ucd_facts.specs.declared.row.Row.TheVariants.{Unit as DataLine, Value as ValueLine, Exclusion as ExclusionLine, Fold as FoldLine, Casing as CasingLine, Alias as AliasLine, Missing as MissingLine}
 use Rattle.source_rows.specs.KeyNames.{has_code}
 use Rattle.source_rows.specs.Keys.{row_span}
 use Rattle.source_rows.specs.Laws.{RowsAreOk, RowsAreRead}
 use Rattle.part_list.specs.declared.spanned.Spanned.{Spanned}
 use Rattle.release_rows.specs.Operations.{row_passes, row_spans, spans_of}
-use Rattle.release_rows.specs.FileItems.{FileItem}
+use Rattle.release_rows.specs.FileItems.{FileItem, SourceFile, Row}
 use Rattle.release_rows.specs.StoredItems.{HasSpan, IsStored, content_at, item_at}
 use Rattle.release_rows.specs.declared.stretch.Stretch.{Stretch}
 use Rattle.release_rows.proofs.Seeking.{StoredAs, stored_as}

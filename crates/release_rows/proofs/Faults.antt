@@ -1,10 +1,8 @@
 -- A file's first fault.
-use Rattle.std.proofs.Common.{◌≡◌, List, [], ◌∷◌, ◌++◌, map, Option, Some, None, Ok, Err, refl, sym, ap, ◌∙◌, append_assoc}
-use Rattle.std.proofs.lemmas.List.{append-nil}
+use Rattle.std.proofs.Common.{◌≡◌, List, [], ◌∷◌, ◌++◌, map, Option, Some, None, Ok, Err, refl, sym, ap, ◌∙◌, append_assoc, append-nil}
 use Rattle.ucd_points.specs.Lines.{items_of}
-use Rattle.ucd_points.specs.declared.files.SourceFile.{SourceFile}
 use Rattle.release_rows.specs.Pieces.{Lines, pieces}
-use Rattle.release_rows.specs.FileItems.{FileItem}
+use Rattle.release_rows.specs.FileItems.{FileItem, SourceFile}
 use Rattle.release_rows.specs.Loading.{LoadFault, file_item, piece_fault, first_fault, unless_fault, file_or_fault}
 use Rattle.release_rows.specs.Laws.{NoFaultBelow, FirstFaultBelow, FaultsAreFirst, LoadsExactly}
 use Rattle.release_rows.proofs.Kept.{later_by, ok_by}

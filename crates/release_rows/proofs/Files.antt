@@ -1,10 +1,9 @@
 -- Files of which one is given other items.
 use Rattle.std.proofs.Common.{◌≡◌, List, map, set, refl, ◌∙◌}
 use Rattle.std.proofs.lemmas.List.{map-set, length-set}
-use Rattle.ucd_points.specs.declared.files.SourceFile.{SourceFile}
 use Rattle.ucd_points.specs.declared.files.SourceFile.TheVariants.{UnicodeData, PropList, Scripts, WordBreakProperty, CompositionExclusions, CaseFolding, SpecialCasing, PropertyAliases, PropertyValueAliases}
 use Rattle.ucd_points.specs.SourceFiles.{file_place, source_files}
-use Rattle.release_rows.specs.FileItems.{FileItem, FileLists}
+use Rattle.release_rows.specs.FileItems.{FileItem, FileLists, SourceFile}
 use Rattle.release_rows.specs.FileLemmas.{each_with_items}
 use Rattle.release_rows.specs.Releases.{AreSound, AllAreKept, ReleaseItems, files_now, files_next, loaded, with_items}
 

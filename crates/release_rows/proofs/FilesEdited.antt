@@ -4,9 +4,8 @@ use Rattle.std.proofs.lemmas.List.{get_or-map, get_or_default, length-append, le
 use Rattle.std.proofs.lemmas.List.Edits.{map_over_more}
 use Rattle.ucd_points.specs.Bounds.{Bounds}
 use Rattle.ucd_points.specs.SourceFiles.{file_at-place, file_at, file_place, file_place_small, source_files}
-use Rattle.ucd_points.specs.declared.files.SourceFile.{SourceFile}
 use Rattle.ucd_points.specs.declared.files.SourceFile.TheVariants.{UnicodeData}
-use Rattle.release_rows.specs.FileItems.{FileItem, FileLists}
+use Rattle.release_rows.specs.FileItems.{FileItem, FileLists, SourceFile}
 use Rattle.release_rows.specs.OperationLaws.{OperationsKeepCuts, OperationsKeepOrder, OperationsKeepRows}
 use Rattle.release_rows.specs.Operations.{AnswersOp, IsOp, edited, op_file, op_or_rule, with_edited}
 use Rattle.release_rows.specs.Releases.{AllAreKept, AreKept, AreSound, committed, discarded, files_next, files_now, items_at, with_items}

@@ -3,13 +3,11 @@ use Rattle.std.proofs.Common.{◌≡◌, ℕ, ◌==◌, Bool, true, false, ◌&&
 use Rattle.std.proofs.lemmas.Bool.{and_parts, eqb-true}
 use Rattle.std.proofs.lemmas.List.Elements.{All-weaker}
 use Rattle.std.proofs.lemmas.List.Folds.{list_any_none}
-use Rattle.ucd_points.specs.declared.files.SourceFile.{SourceFile}
 use Rattle.ucd_points.specs.declared.files.SourceFile.TheVariants.{UnicodeData, PropList, Scripts, WordBreakProperty, CompositionExclusions, CaseFolding, SpecialCasing, PropertyAliases, PropertyValueAliases}
-use Rattle.ucd_facts.specs.declared.row.Row.{Row}
 use Rattle.source_rows.specs.Keys.{key_names, row_span, same_texts}
 use Rattle.part_list.specs.declared.seen_numbers.SeenNumbers.{SeenNumbers}
 use Rattle.part_list.specs.SeenNumbers.{may_have}
-use Rattle.release_rows.specs.FileItems.{FileItem}
+use Rattle.release_rows.specs.FileItems.{FileItem, SourceFile, Row}
 use Rattle.release_rows.specs.Noted.{AreNoted, OptionNoted, ItemNoted, RowNoted, key_hash}
 use Rattle.release_rows.specs.Keys.{has_spans, overlaps, own_span, same_key, spans_meet}
 use Rattle.release_rows.specs.Operations.{holds_row, row_passes}

@@ -3,18 +3,15 @@ use Rattle.std.proofs.Common.{◌≡◌, ℕ, Bool, true, false, List, map, set,
 use Rattle.std.specs.List.{position_or_len, remove}
 use Rattle.std.proofs.lemmas.List.{get_or-map, length-map}
 use Rattle.std.proofs.lemmas.List.Sums.{passes_at_first}
-use Rattle.ucd_points.specs.declared.files.SourceFile.{SourceFile}
-use Rattle.ucd_facts.specs.declared.row.Row.{Row}
 use Rattle.source_rows.specs.declared.key.Key.{Key}
 use Rattle.part_list.specs.Parts.{flat, place}
 use Rattle.part_list.specs.SpotLaws.{place-lt}
 use Rattle.part_list.specs.declared.spanned.Spanned.{Spanned}
 use Rattle.part_list.specs.declared.spot.Spot.{Spot}
-use Rattle.release_rows.specs.FileItems.{FileItem}
 use Rattle.release_rows.specs.Finding.{FindsRow, FindsSpot, IsFirst, items_of}
 use Rattle.release_rows.specs.Keys.{same_key}
 use Rattle.release_rows.specs.Operations.{changed_item, edited, has_key, item_of_row, row_passes, spans_of, spans_with}
-use Rattle.release_rows.specs.Releases.{AreKept}
+use Rattle.release_rows.specs.Releases.{AreKept, FileItem, SourceFile, Row}
 use Rattle.release_rows.specs.Searches.{Sought, IsSoughtRow}
 use Rattle.release_rows.specs.StoredItems.{stored_at}
 use Rattle.release_rows.specs.declared.key_rule.KeyRule.{KeyRule}

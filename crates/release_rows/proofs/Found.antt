@@ -1,15 +1,14 @@
 -- What a map from places finds, against a test of all its extents.
-use Rattle.std.proofs.Common.{◌≡◌, ℕ, suc, Bool, true, false, cond, ◌||◌, List, [], ◌∷◌, map, Option, Some, is_some, refl, ap, ◌∙◌, inl, inr}
+use Rattle.std.proofs.Common.{◌≡◌, ℕ, suc, Bool, true, false, cond, ◌||◌, List, [], ◌∷◌, map, Option, Some, is_some, refl, ap, ◌∙◌, inl, inr, is_eq}
 use Rattle.std.specs.List.{list_any, slice_get}
 use Rattle.std.specs.Map.{lookup}
-use Rattle.std.specs.Ordering.{is_eq}
 use Rattle.std.specs.BTreeMap.{BTreeMap, get, is_at, IsOrdered}
 use Rattle.std.proofs.lemmas.Bool.{or_left, or_right, or_cases}
 use Rattle.std.proofs.lemmas.Map.Entries.{btree_map_get_place}
+use Rattle.ucd_points.specs.PlainProofs.{equal_is}
 use Rattle.release_rows.specs.Extents.{Extent, same_start}
 use Rattle.release_rows.specs.Places.{place_cmp, extent_at, extent_of}
 use Rattle.release_rows.specs.declared.sort_key.SortKey.{SortKey}
-use Rattle.release_rows.proofs.Texts.{equal_is}
 use Rattle.release_rows.proofs.PlaceOrder.{place_total, starts_tell, equal_keys}
 
 start_step : (b : Bool) (v : ℕ) (any : Bool) (found : Option ℕ) → any ≡ is_some found → (b || any) ≡ is_some (cond b (Some v) found)

@@ -3,15 +3,13 @@ use Rattle.std.proofs.Common.{◌≡◌, Bool, false, List, [], ◌∷◌, Optio
 use Rattle.std.specs.List.{All, list_any}
 use Rattle.std.proofs.lemmas.Bool.{or_parts}
 use Rattle.std.proofs.lemmas.List.Elements.{All-weaker}
-use Rattle.ucd_points.specs.declared.files.SourceFile.{SourceFile}
-use Rattle.ucd_facts.specs.declared.row.Row.{Row}
 use Rattle.source_rows.specs.KeyNames.{ContentsHaveKeys}
 use Rattle.part_list.specs.declared.spanned.Spanned.{Spanned}
 use Rattle.part_list.specs.declared.spot.Spot.{Spot}
 use Rattle.part_list.specs.Parts.{flat}
 use Rattle.part_list.specs.Finds.{FirstAt}
 use Rattle.part_list.specs.SpotLaws.{first_some, first_none}
-use Rattle.release_rows.specs.FileItems.{FileItem}
+use Rattle.release_rows.specs.FileItems.{FileItem, SourceFile, Row}
 use Rattle.release_rows.specs.Finding.{IsFirst, items_of}
 use Rattle.release_rows.specs.Keys.{overlaps, same_key}
 use Rattle.release_rows.specs.Operations.{holds_row, overlaps_another, row_passes}

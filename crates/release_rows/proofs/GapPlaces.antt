@@ -6,7 +6,6 @@ use Rattle.std.proofs.lemmas.List.Elements.{All-weaker}
 use Rattle.std.proofs.lemmas.List.Folds.{list_any-from_Any, list_any_none}
 use Rattle.std.proofs.lemmas.List.Sums.{prefix_len_passes}
 use Rattle.std.proofs.lemmas.Bool.{not-true}
-use Rattle.ucd_facts.specs.declared.row.Row.{Row}
 use Rattle.ucd_lines.specs.declared.item.Ending.TheVariants.{Lf}
 use Rattle.part_list.specs.declared.spanned.Spanned.{Spanned}
 use Rattle.part_list.specs.declared.spot.Spot.{Spot}
@@ -18,7 +17,7 @@ use Rattle.source_rows.specs.KeyNames.{ContentsHaveKeys, group_of}
 use Rattle.part_list.specs.SeenNumbers.{may_have}
 use Rattle.part_list.specs.declared.seen_numbers.SeenNumbers.{SeenNumbers}
 use Rattle.release_rows.specs.Noted.{AreNoted, group_hash}
-use Rattle.release_rows.specs.Keys.{is_missing_in}
+use Rattle.release_rows.specs.Keys.{is_missing_in, Row}
 use Rattle.release_rows.specs.Operations.{follows, place_in, row_passes, same_group}
 use Rattle.release_rows.specs.Searches.{Sought, IsSoughtRow, comes_behind, is_alike}
 use Rattle.release_rows.specs.StoredItems.{IsStored, stored_at}

@@ -5,9 +5,7 @@ use Rattle.std.proofs.lemmas.Bool.{and_parts, and_from, or_from, eqb-true, le-le
 use Rattle.std.proofs.lemmas.List.{append-nil, map-append}
 use Rattle.std.proofs.lemmas.List.Elements.{All-nil, All-cons, All-append, All-head, All-tail}
 use Rattle.ucd_points.specs.Lines.{items_of, joined}
-use Rattle.ucd_points.specs.declared.files.SourceFile.{SourceFile}
 use Rattle.ucd_points.specs.declared.files.SourceFile.TheVariants.{UnicodeData, PropList, Scripts, WordBreakProperty, CompositionExclusions, CaseFolding, SpecialCasing, PropertyAliases, PropertyValueAliases}
-use Rattle.ucd_facts.specs.declared.row.Row.{Row}
 use Rattle.part_list.specs.Parts.{PartLists, now_in, next_in}
 use Rattle.part_list.specs.declared.spanned.Spanned.{Spanned}
 use Rattle.source_rows.specs.Keys.{row_span, key_names, same_texts}
@@ -15,7 +13,7 @@ use Rattle.release_rows.specs.Chains.{IsOrderedPlace, placed_extent, places_meet
 use Rattle.release_rows.specs.Cuts.{Ascends}
 use Rattle.release_rows.specs.Entries.{EntersSome}
 use Rattle.release_rows.specs.Extents.{Extent, meets}
-use Rattle.release_rows.specs.FileItems.{FileItem, onto_rows, rows_in}
+use Rattle.release_rows.specs.FileItems.{FileItem, onto_rows, rows_in, SourceFile, Row}
 use Rattle.release_rows.specs.Gathered.{AreGathered, placed_of}
 use Rattle.release_rows.specs.Keys.{extent_in, has_spans, row_end, same_key}
 use Rattle.release_rows.specs.Loaders.{IsLoaded}

@@ -4,12 +4,11 @@ use Rattle.std.specs.List.{list_any}
 use Rattle.std.proofs.lemmas.List.{append-nil, map-append}
 use Rattle.std.proofs.lemmas.List.Sums.{sum_by-append}
 use Rattle.std.proofs.lemmas.List.Folds.{list_any-append}
-use Rattle.ucd_points.specs.declared.files.SourceFile.{SourceFile}
-use Rattle.ucd_facts.specs.declared.row.Row.{Row}
+use Rattle.release_rows.specs.ValuesApartProofs.{rows_append}
 use Rattle.release_rows.specs.Extents.{Extent, conflict_with}
 use Rattle.source_rows.specs.Keys.{row_span}
 use Rattle.release_rows.specs.Keys.{extent_in, falls_back, is_back, key_rule, last_start}
-use Rattle.release_rows.specs.FileItems.{FileItem, onto_rows, rows_in, lines_of}
+use Rattle.release_rows.specs.FileItems.{FileItem, onto_rows, rows_in, lines_of, SourceFile, Row}
 use Rattle.release_rows.specs.Entries.{EntersSome}
 use Rattle.release_rows.specs.Loading.{rule_by}
 use Rattle.release_rows.specs.Places.{extent_at}
@@ -17,7 +16,6 @@ use Rattle.release_rows.specs.Progress.{HoldsRows, TakesRow, start_of_entry}
 use Rattle.release_rows.specs.declared.conflict.Conflict.{Conflict}
 use Rattle.release_rows.specs.declared.entry.Entry.{Entry}
 use Rattle.release_rows.proofs.RowRules.{back_is, extent_is, no_conflict, rule_told}
-use Rattle.release_rows.proofs.Operations.{rows-append}
 
 -- the first code point of the last row, with one more row or none
 abbrev start_with : Option ℕ → Option Row → Option ℕ
@@ -29,9 +27,6 @@ start_is file before None None h = refl
 start_is file before (Some e) (Some row) h = ap (λ (n : ℕ). Some n) h.code
 start_is file before None (Some row) h = absurd h
 start_is file before (Some e) None h = absurd h
-
-pub rows_with : (items : List FileItem) (item : FileItem) → rows_in (items ++ item ∷ []) ≡ rows_in items ++ onto_rows item.row []
-rows_with items item = rows-append items (item ∷ [])
 
 pub lines_with : (items : List FileItem) (item : FileItem) → lines_of (items ++ item ∷ []) ≡ lines_of items + item.lines
 lines_with items item = sum_by-append (λ i. i.lines) items (item ∷ []) ∙ omega arith
@@ -47,7 +42,7 @@ start_grows rows (Some row) = sym (start_of rows row)
 
 pub start_after : (file : SourceFile) (items : List FileItem) (item : FileItem) (start : Option ℕ) (entry : Option Entry) → start ≡ last_start (rows_in items) → EntersSome file entry item.row → start_of_entry start entry ≡ last_start (rows_in (items ++ item ∷ []))
 start_after file items item start entry same enters =
-    start_is file start entry item.row enters ∙ ap (λ (o : Option ℕ). start_with o item.row) same ∙ start_grows (rows_in items) item.row ∙ ap last_start (sym (rows_with items item))
+    start_is file start entry item.row enters ∙ ap (λ (o : Option ℕ). start_with o item.row) same ∙ start_grows (rows_in items) item.row ∙ ap last_start (sym (rows_append items item))
 
 -- ---- extents
 

@@ -1,12 +1,10 @@
 -- What the items of a file keep: their rows, and their bytes.
 use Rattle.std.proofs.Common.{◌≡◌, ℕ, ◌+◌, Bool, true, false, cond, List, [], ◌∷◌, ◌++◌, map, Option, Some, None, Result, Ok, Err, refl, sym, ap, ◌∙◌, append_assoc}
 use Rattle.ucd_points.specs.Lines.{LineItem, item_bytes, ending_bytes, joined, items_of}
-use Rattle.ucd_points.specs.declared.files.SourceFile.{SourceFile}
-use Rattle.ucd_facts.specs.declared.row.Row.{Row}
 use Rattle.source_rows.specs.declared.fault.RowFault.{RowFault}
 use Rattle.release_rows.specs.Keys.{key_rule}
 use Rattle.release_rows.specs.Pieces.{Lines, pieces, opens_range, piece_content, one_line, two_lines}
-use Rattle.release_rows.specs.FileItems.{FileItem, rows_in, bytes_of, file_item_bytes, lines_of}
+use Rattle.release_rows.specs.FileItems.{FileItem, rows_in, bytes_of, file_item_bytes, lines_of, SourceFile, Row}
 use Rattle.release_rows.specs.Loading.{LoadFault, content_row, file_item, piece_fault, first_fault, unless_fault, file_or_fault, row_rule}
 use Rattle.release_rows.specs.Releases.{IsKept, AreKeptBelow}
 use Rattle.release_rows.specs.declared.load_stop.LoadRule.{LoadRule}

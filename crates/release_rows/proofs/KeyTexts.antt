@@ -1,9 +1,7 @@
 -- The texts of the names of keys.
-use Rattle.std.proofs.Common.{◌≡◌, ℕ, zero, suc, ◌-◌, ◌<◌, ◌≤◌, true, false, not, ◌&&◌, ◌||◌, leb, eqb, List, [], ◌∷◌, ◌++◌, take, refl, ap, ◌∙◌, arith, append_assoc, lit≤, sym, inl, inr}
-use Rattle.std.specs.Prelude.{codes}
+use Rattle.std.proofs.Common.{◌≡◌, ℕ, zero, suc, ◌-◌, ◌<◌, ◌≤◌, true, false, not, ◌&&◌, leb, eqb, List, [], ◌∷◌, ◌++◌, take, refl, ap, ◌∙◌, arith, append_assoc, lit≤, sym, inl, inr, codes, append-nil}
 use Rattle.std.specs.List.{All, list_all, list_any, slice_split, flat_map, join_with_byte}
 use Rattle.std.proofs.lemmas.Bool.{and_parts, ne_eqb, or_parts, not-true}
-use Rattle.std.proofs.lemmas.List.{append-nil}
 use Rattle.std.proofs.lemmas.List.Elements.{All-nil, All-cons, All-head, All-tail, All-take, All-weaker}
 use Rattle.std.proofs.lemmas.List.Splits.{slice_split_none, slice_split_at}
 use Rattle.ucd_points.specs.Fields.{field, is_semicolon, is_name, is_name_byte}
@@ -12,12 +10,11 @@ use Rattle.ucd_points.specs.HexTextLaws.{IsUpperHex}
 use Rattle.ucd_points.specs.HexTextProofs.{hex_text_is_upper_case}
 use Rattle.ucd_facts.specs.OtherLines.{is_name_or_empty}
 use Rattle.ucd_facts.specs.RowValues.{IsAliasName, AliasOk, RowOk}
-use Rattle.ucd_points.specs.declared.files.SourceFile.{SourceFile}
 use Rattle.ucd_points.specs.declared.files.SourceFile.TheVariants.{UnicodeData, PropList, Scripts, WordBreakProperty, CompositionExclusions, CaseFolding, SpecialCasing, PropertyAliases, PropertyValueAliases}
 use Rattle.ucd_facts.specs.declared.row.AliasRow.{AliasRow}
 use Rattle.ucd_facts.specs.declared.row.CasingRow.{CasingRow}
 use Rattle.ucd_facts.specs.declared.row.Row.TheVariants.{Casing as CasingLine, Alias as AliasLine}
-use Rattle.source_rows.specs.Keys.{condition_names, alias_count, missing_names, key_names}
+use Rattle.source_rows.specs.Keys.{condition_names, alias_count, missing_names, key_names, SourceFile}
 use Rattle.release_rows.specs.Names.{first_names}
 use Rattle.release_rows.specs.Places.{names_of}
 

@@ -1,19 +1,16 @@
 -- Patches lead back.
-use Rattle.std.proofs.Common.{◌≡◌, ℕ, suc, ◌+◌, ◌-◌, ◌<◌, ◌≤◌, ◌==◌, Bool, true, List, [], ◌∷◌, ◌++◌, length, map, take, drop, get_or, refl, sym, ap, subst, ◌∙◌, arith}
-use Rattle.std.specs.List.{All}
+use Rattle.std.proofs.Common.{◌≡◌, ℕ, suc, ◌+◌, ◌-◌, ◌<◌, ◌≤◌, ◌==◌, Bool, true, List, [], ◌∷◌, ◌++◌, length, map, take, drop, get_or, refl, sym, ap, subst, ◌∙◌, arith, All}
 use Rattle.std.proofs.lemmas.Bool.Decides.{nat_tests}
 use Rattle.std.proofs.lemmas.List.{append-nil, append_assoc, drop-map, drop_all, drop_at, drop_more, get_or-map, length-append, length-map, length-set, length-take-le, map-append, set-get_or, set-set, take-append-drop, take-map, take_all, take_at, take_more, take_more_same}
 use Rattle.std.proofs.lemmas.List.Concat.{flat_map-append}
 use Rattle.std.proofs.lemmas.List.Elements.{All-drop, All-take}
 use Rattle.ucd_points.specs.SourceFiles.{file_place}
-use Rattle.ucd_points.specs.declared.files.SourceFile.{SourceFile}
 use Rattle.part_list.specs.Parts.{PartLists, flat, now_in, part_at, spliced}
 use Rattle.part_list.specs.declared.spanned.Spanned.{Spanned}
 use Rattle.release_rows.specs.Back.{LeadsOn, turned}
-use Rattle.release_rows.specs.FileItems.{FileItem}
 use Rattle.release_rows.specs.FileLemmas.{items_at-with_items_same}
 use Rattle.release_rows.specs.Patches.{IsDefined, LeadsBack, SpliceItems, Stands, back, undone}
-use Rattle.release_rows.specs.Releases.{items_at, with_items}
+use Rattle.release_rows.specs.Releases.{items_at, with_items, FileItem, SourceFile}
 use Rattle.release_rows.specs.declared.stretch.Stretch.{Stretch}
 
 abbrev Files : Type 0

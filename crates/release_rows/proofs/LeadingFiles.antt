@@ -1,15 +1,13 @@
 -- Patches lead back, in all files.
-use Rattle.std.proofs.Common.{◌≡◌, ℕ, ◌+◌, ◌<◌, List, [], ◌++◌, ◌∷◌, length, map, take, drop, set, get_or, true, Result, Ok, Err, sym, ap, subst, ◌∙◌, arith}
+use Rattle.std.proofs.Common.{◌≡◌, ℕ, ◌+◌, ◌<◌, List, [], ◌++◌, ◌∷◌, length, map, take, drop, set, get_or, true, Result, Ok, Err, sym, ap, subst, ◌∙◌, arith, is_err}
 use Rattle.std.proofs.lemmas.List.{append_assoc, drop_more, get_or-map, get_or_at, length-append, length-drop, length-map, length-take-le, set_at, take_more}
-use Rattle.std.specs.Result.{is_err}
 use Rattle.ucd_points.specs.Bounds.{Bounds}
 use Rattle.ucd_points.specs.declared.memory.Memory.{Memory}
 use Rattle.ucd_points.specs.SourceFiles.{file_at, file_place, file_place-at, source_files}
-use Rattle.ucd_points.specs.declared.files.SourceFile.{SourceFile}
 use Rattle.ucd_points.specs.declared.files.SourceFile.TheVariants.{UnicodeData}
 use Rattle.part_list.specs.Parts.{spliced}
 use Rattle.release_rows.specs.Back.{LeadsOn}
-use Rattle.release_rows.specs.FileItems.{FileItem, FileLists}
+use Rattle.release_rows.specs.FileItems.{FileItem, FileLists, SourceFile}
 use Rattle.release_rows.specs.Patches.{AnswersBack, LeadsBack, SpliceItems, undone}
 use Rattle.release_rows.specs.Releases.{ReleaseItems, files_next, files_now, items_at, with_items}
 use Rattle.release_rows.proofs.FilesEdited.{next_are, next_here}

@@ -1,13 +1,9 @@
 -- Leads tell that no row among the first ones follows another, and stay true where a row is put in.
-use Rattle.std.proofs.Common.{◌≡◌, ℕ, zero, suc, ◌+◌, ◌-◌, ◌<◌, ◌≤◌, ◌⊎◌, inl, inr, Bool, true, false, ◌&&◌, List, [], ◌∷◌, ◌++◌, length, map, take, drop, get_or, set, if◌then◌else◌, Option, Some, None, Ok, refl, sym, ap, subst, ◌∙◌, arith}
+use Rattle.std.proofs.Common.{◌≡◌, ℕ, zero, suc, ◌+◌, ◌-◌, ◌<◌, ◌≤◌, ◌⊎◌, inl, inr, Bool, true, false, ◌&&◌, List, [], ◌∷◌, ◌++◌, length, map, take, drop, get_or, set, if◌then◌else◌, Option, Some, None, Ok, refl, sym, ap, subst, ◌∙◌, arith, IfSome, bytes_eq, Ordering, Less, Equal, Greater}
 use Rattle.std.specs.Cmp.{IsTotalOrder}
 use Rattle.std.specs.Global.{Vec}
 use Rattle.std.specs.List.{All, insert, position_or_len}
-use Rattle.std.specs.Option.{IfSome}
 use Rattle.std.specs.Ordering.{ordering_reverse, ordering_then, nat_cmp, is_gt, is_lt}
-use Rattle.std.specs.Str.{bytes_eq}
-use Rattle.std.specs.declared.cmp.Ordering.{Ordering}
-use Rattle.std.specs.declared.cmp.Ordering.TheVariants.{Less, Equal, Greater}
 use Rattle.std.proofs.Math.Nat.{eq-or-lt_of_le}
 use Rattle.std.proofs.Math.Seq.{take-append-add}
 use Rattle.std.proofs.lemmas.Bool.{and_parts, or_parts}
@@ -17,8 +13,8 @@ use Rattle.std.proofs.lemmas.Grind.{get_or-set_at}
 use Rattle.std.proofs.lemmas.List.Elements.{All-append, All-cons, All-drop, All-head, All-tail, All-take, All-weaker}
 use Rattle.std.proofs.lemmas.List.Sums.{fails_before_first}
 use Rattle.std.proofs.lemmas.Slice.Eq.{bytes_eq-Decides}
-use Rattle.ucd_points.specs.declared.files.SourceFile.{SourceFile}
-use Rattle.ucd_facts.specs.declared.row.Row.{Row}
+use Rattle.release_rows.proofs.Unchanged.{length-ended}
+use Rattle.ucd_points.specs.PlainProofs.{lt_is}
 use Rattle.source_rows.specs.Faults.{row_or_fault}
 use Rattle.source_rows.specs.KeyNames.{ContentsHaveKeys, content_group, content_names, group_of, names_cmp}
 use Rattle.source_rows.specs.Keys.{code_number, is_before, key_cmp, key_of, row_span}
@@ -26,7 +22,7 @@ use Rattle.source_rows.specs.declared.key.Key.{Key}
 use Rattle.part_list.specs.Parts.{PartLists, flat, next_in}
 use Rattle.part_list.specs.SpotLaws.{place-lt}
 use Rattle.part_list.specs.declared.spanned.Spanned.{Spanned}
-use Rattle.release_rows.specs.FileItems.{FileItem}
+use Rattle.release_rows.specs.FileItems.{FileItem, SourceFile, Row}
 use Rattle.release_rows.specs.Gaps.{IsGapAt}
 use Rattle.release_rows.specs.Keys.{is_missing_in}
 use Rattle.release_rows.specs.Leads.{AreLeads, GivesRow, IsLead, KeepLeads, NoneFollows}
@@ -46,11 +42,6 @@ use Rattle.release_rows.proofs.Seeking.{behind_found, code_is}
 
 key_total : IsTotalOrder key_cmp
 key_total = then_total (on_total (λ (k : Key). code_number k.code) nat_cmp_total) (on_total (λ (k : Key). k.names) (lists_total nat_list_cmp_total))
-
-lt_is : (o : Ordering) → is_lt o ≡ true → o ≡ Less
-lt_is Less h = refl
-lt_is Equal h = absurd cc
-lt_is Greater h = absurd cc
 
 below_by : (f r x : Key) (o : Ordering) → key_cmp r f ≡ o → is_lt o ≡ false → key_cmp r x ≡ Less → key_cmp f x ≡ Less
 below_by f r x Less is order less = absurd cc
@@ -102,11 +93,6 @@ lead_passes s r items lead law is h group order =
 
 -- ---- a row that is put in
 
-length_ended : (items : List FileItem) → length (ended items) ≡ length items
-length_ended [] = refl
-length_ended (x ∷ []) = refl
-length_ended (x ∷ y ∷ items) = ap suc (length_ended (y ∷ items))
-
 module _ (p : Row → Bool) where
   abbrev Lacks : FileItem → Type 0
   Lacks item = row_passes p item ≡ false
@@ -126,14 +112,14 @@ module _ (p : Row → Bool) where
 
   put_before : (n at : ℕ) (items : List FileItem) (added : FileItem) → n ≤ at → at ≤ length items → All Lacks (take n items) → All Lacks (take n (put_in items at added))
   put_before n at items added le within h =
-      let front = length_ended (take at items) in
+      let front = length-ended (take at items) in
       let long = length-take-le at items within in
       rw (take-append-le n (ended (take at items)) (added ∷ drop at items) (omega arith))
       (take_ended n (take at items) (subst (All Lacks) (sym (take-take n at items le)) h))
 
   put_behind : (n at : ℕ) (items : List FileItem) (added : FileItem) → at ≤ n → at ≤ length items → All Lacks (take n items) → Lacks added → All Lacks (take (n + 1) (put_in items at added))
   put_behind n at items added le within h one =
-      let front = length_ended (take at items) in
+      let front = length-ended (take at items) in
       let long = length-take-le at items within in
       let count : n + 1 ≡ length (ended (take at items)) + suc (n - at) = omega arith in
       let whole : at + (n - at) ≡ n = omega arith in

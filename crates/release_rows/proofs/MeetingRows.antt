@@ -3,12 +3,10 @@ use Rattle.std.proofs.Common.{◌≡◌, ℕ, Bool, true, false, ◌||◌, List,
 use Rattle.std.specs.List.{All, list_any}
 use Rattle.std.proofs.lemmas.List.Elements.{All-head, All-tail, filter-append}
 use Rattle.ucd_points.specs.Bounds.{Bounds}
-use Rattle.ucd_points.specs.declared.files.SourceFile.{SourceFile}
-use Rattle.ucd_facts.specs.declared.row.Row.{Row}
 use Rattle.source_rows.specs.KeyNames.{has_code}
 use Rattle.source_rows.specs.Laws.{RowsAreOk, RowsAreRead}
 use Rattle.part_list.specs.declared.spanned.Spanned.{Spanned}
-use Rattle.release_rows.specs.FileItems.{rows_in, onto_rows}
+use Rattle.release_rows.specs.FileItems.{rows_in, onto_rows, SourceFile, Row}
 use Rattle.release_rows.specs.Keys.{spans_meet}
 use Rattle.release_rows.specs.Meetings.{entry_meets}
 use Rattle.release_rows.specs.Operations.{row_spans, spans_of}

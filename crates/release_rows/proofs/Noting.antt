@@ -4,8 +4,6 @@ use Rattle.std.specs.List.{All, insert, list_any, remove}
 use Rattle.std.proofs.lemmas.List.Elements.{All-append, All-cons, All-drop, All-set, All-take, All-weaker, All-head, All-tail}
 use Rattle.std.proofs.lemmas.List.Folds.{list_any_none}
 use Rattle.std.proofs.lemmas.Slice.Eq.{bytes_eq-Decides}
-use Rattle.ucd_points.specs.declared.files.SourceFile.{SourceFile}
-use Rattle.ucd_facts.specs.declared.row.Row.{Row}
 use Rattle.source_rows.specs.Faults.{row_or_fault}
 use Rattle.source_rows.specs.KeyNames.{group_of}
 use Rattle.source_rows.specs.Keys.{key_names, row_span}
@@ -13,7 +11,7 @@ use Rattle.part_list.specs.Parts.{PartLists, now_in, next_in}
 use Rattle.part_list.specs.SeenNumbers.{Grows, may_have}
 use Rattle.part_list.specs.declared.spanned.Spanned.{Spanned}
 use Rattle.part_list.specs.declared.seen_numbers.SeenNumbers.{SeenNumbers}
-use Rattle.release_rows.specs.FileItems.{FileItem}
+use Rattle.release_rows.specs.FileItems.{FileItem, SourceFile, Row}
 use Rattle.release_rows.specs.Noted.{AreNoted, OptionNoted, ItemNoted, KeepNotes, RowNoted, group_hash, key_hash}
 use Rattle.release_rows.specs.Operations.{ended, follows, put_in, row_passes, same_group, with_end}
 use Rattle.release_rows.specs.StoredItems.{HasSpan, IsKeptFile, IsStored, content_at, stored_at}

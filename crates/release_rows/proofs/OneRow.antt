@@ -1,13 +1,10 @@
 -- Where one row passes and no other one does.
-use Rattle.std.proofs.Common.{◌≡◌, ℕ, suc, ◌+◌, Bool, true, false, not, ◌&&◌, ◌||◌, List, [], ◌∷◌, map, filter, set, get_or, Option, Some, None, refl, sym, ap, ◌∙◌, arith}
+use Rattle.std.proofs.Common.{◌≡◌, ℕ, suc, ◌+◌, Bool, true, false, not, ◌&&◌, ◌||◌, List, [], ◌∷◌, map, filter, set, get_or, Option, Some, None, refl, sym, ap, ◌∙◌, arith, append-nil}
 use Rattle.std.specs.List.{list_any, position_or_len, remove}
 use Rattle.std.proofs.lemmas.Bool.{and_parts, or_parts, eqb-true, eq-eqb, and_from, not-true}
-use Rattle.std.proofs.lemmas.List.{append-nil}
-use Rattle.ucd_points.specs.declared.files.SourceFile.{SourceFile}
-use Rattle.ucd_facts.specs.declared.row.Row.{Row}
 use Rattle.source_rows.specs.Keys.{row_span, key_names, key_code, code_number, same_code, same_texts}
 use Rattle.source_rows.specs.declared.key.Key.{Key}
-use Rattle.release_rows.specs.FileItems.{FileItem, rows_in}
+use Rattle.release_rows.specs.FileItems.{FileItem, rows_in, SourceFile, Row}
 use Rattle.release_rows.specs.Keys.{same_key}
 use Rattle.release_rows.specs.Operations.{has_key, holds_row, row_passes, spans_of, spans_with}
 use Rattle.release_rows.specs.Releases.{AreKept}

@@ -1,12 +1,10 @@
 -- What the items of a file keep, they keep after an operation.
-use Rattle.std.proofs.Common.{◌≡◌, ℕ, Bool, true, false, cond, not, ◌||◌, List, [], ◌∷◌, ◌++◌, map, filter, take, drop, Option, Some, None, Result, Ok, Err, refl, sym, ap, subst, ◌∙◌, append_assoc}
+use Rattle.std.proofs.Common.{◌≡◌, ℕ, Bool, true, false, cond, not, ◌||◌, List, [], ◌∷◌, ◌++◌, map, filter, take, drop, Option, Some, None, Result, Ok, Err, refl, sym, ap, subst, ◌∙◌, append_assoc, append-nil, take-append-drop}
 use Rattle.std.specs.List.{list_any}
-use Rattle.std.proofs.lemmas.List.{append-nil, take-append-drop}
-use Rattle.ucd_points.specs.declared.files.SourceFile.{SourceFile}
-use Rattle.ucd_facts.specs.declared.row.Row.{Row}
+use Rattle.release_rows.specs.ValuesApartProofs.{onto_append}
 use Rattle.source_rows.specs.Faults.{row_or_fault}
 use Rattle.source_rows.specs.Trivia.{RowsAreNoTrivia}
-use Rattle.release_rows.specs.FileItems.{FileItem, rows_in, onto_rows}
+use Rattle.release_rows.specs.FileItems.{FileItem, rows_in, onto_rows, SourceFile, Row}
 use Rattle.release_rows.specs.Keys.{same_key, overlaps, key_rule}
 use Rattle.release_rows.specs.Loading.{content_row}
 use Rattle.release_rows.specs.Operations.{edited, row_passes, holds_row, has_key, overlaps_another, place_in, ended, put_in, added_item, changed_item}
@@ -25,10 +23,6 @@ is_read file item = content_row file item.content ≡ Ok item.row
 abbrev pub AllRead : SourceFile → List FileItem → Type 0
 AllRead file [] = Unit {0}
 AllRead file (item ∷ items) = is_read file item × AllRead file items
-
-onto_append : (o : Option Row) (xs ys : List Row) → onto_rows o (xs ++ ys) ≡ onto_rows o xs ++ ys
-onto_append None xs ys = refl
-onto_append (Some x) xs ys = refl
 
 pub rows-append : (xs ys : List FileItem) → rows_in (xs ++ ys) ≡ rows_in xs ++ rows_in ys
 rows-append [] ys = refl

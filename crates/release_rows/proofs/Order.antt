@@ -1,22 +1,18 @@
 -- The rows of UnicodeData.txt ascend.
-use Rattle.std.proofs.Common.{◌≡◌, ℕ, ◌+◌, ◌-◌, ◌<◌, ◌≤◌, Bool, true, false, cond, not, eqb, leb, List, [], ◌∷◌, ◌++◌, length, map, filter, reverse, get_or, take, drop, Option, Some, None, refl, sym, ap, subst, ◌∙◌, arith, one-add}
+use Rattle.std.proofs.Common.{◌≡◌, ℕ, ◌+◌, ◌-◌, ◌<◌, ◌≤◌, Bool, true, false, cond, not, eqb, leb, List, [], ◌∷◌, ◌++◌, length, map, filter, reverse, get_or, take, drop, Option, Some, None, refl, sym, ap, subst, ◌∙◌, arith, one-add, Ordering, Less, Greater}
 use Rattle.std.specs.Cmp.{nat_cmp_is}
 use Rattle.std.specs.List.{All, list_any, position_or_len, suffix_len}
 use Rattle.std.specs.Ordering.{nat_cmp, is_lt, ordering_then}
-use Rattle.std.specs.declared.cmp.Ordering.{Ordering}
-use Rattle.std.specs.declared.cmp.Ordering.TheVariants.{Less, Greater}
 use Rattle.std.proofs.lemmas.Bool.{and_parts, or_parts, eqb-true, leb-true, leb-false}
 use Rattle.std.proofs.lemmas.List.{drop_all, get_or-drop, get_or-reverse, length-drop, length-reverse, take-append-drop}
 use Rattle.std.proofs.lemmas.List.Folds.{list_any-append}
 use Rattle.std.proofs.lemmas.List.Sums.{prefix_len_passes, suffix_len-le-length}
 use Rattle.std.proofs.lemmas.List.Elements.{All-nil, All-cons, All-head, All-tail, All-weaker}
-use Rattle.ucd_points.specs.declared.files.SourceFile.{SourceFile}
 use Rattle.ucd_points.specs.declared.files.SourceFile.TheVariants.{UnicodeData, PropList, Scripts, WordBreakProperty, CompositionExclusions, CaseFolding, SpecialCasing, PropertyAliases, PropertyValueAliases}
-use Rattle.ucd_facts.specs.declared.row.Row.{Row}
 use Rattle.source_rows.specs.Keys.{row_span, key_names}
 use Rattle.source_rows.specs.KeyNames.{names_cmp}
 use Rattle.release_rows.specs.Cuts.{begins_from, Rises, Ascends}
-use Rattle.release_rows.specs.FileItems.{FileItem, rows_in, onto_rows}
+use Rattle.release_rows.specs.FileItems.{FileItem, rows_in, onto_rows, SourceFile, Row}
 use Rattle.release_rows.specs.Keys.{overlaps, same_key}
 use Rattle.release_rows.specs.OperationLaws.{OperationsKeepOrder}
 use Rattle.release_rows.specs.Operations.{added_item, changed_item, edited, ended, follows, has_key, holds_row, overlaps_another, place_in, put_in, row_passes, same_group}

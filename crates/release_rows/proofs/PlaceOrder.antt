@@ -1,19 +1,17 @@
 -- The order of places.
-use Rattle.std.proofs.Common.{◌≡◌, ℕ, ◌≤◌, true, false, ◌==◌, List, refl, sym, ap, ◌∙◌, arith}
-use Rattle.std.specs.declared.cmp.Ordering.{Ordering}
-use Rattle.std.specs.declared.cmp.Ordering.TheVariants.{Less, Equal, Greater}
-use Rattle.std.specs.Ordering.{nat_cmp, is_eq, is_lt, is_gt}
+use Rattle.std.proofs.Common.{◌≡◌, ℕ, ◌≤◌, true, false, ◌==◌, List, refl, sym, ap, ◌∙◌, arith, Ordering, Less, Equal, Greater, nat_cmp, is_eq, is_lt, is_gt}
 use Rattle.std.specs.Cmp.{IsTotalOrder}
 use Rattle.std.specs.Cmp.Lexicographic.{slice_cmp}
 use Rattle.std.proofs.lemmas.Bool.{and_parts, eqb-true}
 use Rattle.std.proofs.lemmas.Bool.Decides.{nat_tests}
 use Rattle.std.proofs.lemmas.Cmp.{then_total, on_total, nat_list_cmp_total, nat_cmp_total, tied_itself, alike_right}
 use Rattle.std.proofs.lemmas.Map.Text.{is_eq-slice_cmp}
+use Rattle.ucd_points.specs.PlainProofs.{equal_is}
 use Rattle.source_rows.specs.Keys.{same_texts}
 use Rattle.release_rows.specs.Extents.{same_start}
 use Rattle.release_rows.specs.Places.{names_in, place_cmp, extent_at}
 use Rattle.release_rows.specs.declared.sort_key.SortKey.{SortKey}
-use Rattle.release_rows.proofs.Texts.{is_eq-then, equal_is, texts_same, texts_tell_names}
+use Rattle.release_rows.proofs.Texts.{is_eq-then, texts_same, texts_tell_names}
 
 pub place_total : IsTotalOrder place_cmp
 place_total = then_total (on_total (λ (p : SortKey). p.names.items) nat_list_cmp_total) (on_total (λ (p : SortKey). p.code) nat_cmp_total)

@@ -1,8 +1,8 @@
 -- Items that are put in, among the entries.
-use Rattle.std.proofs.Common.{◌≡◌, ℕ, zero, suc, ◌+◌, ◌<◌, List, [], ◌∷◌, length, take, drop, map, set, get_or, refl, sym, ap, subst, ◌∙◌, arith}
-use Rattle.std.specs.List.{All, insert}
+use Rattle.std.proofs.Common.{◌≡◌, ℕ, zero, suc, ◌+◌, ◌<◌, List, [], ◌∷◌, length, take, drop, map, set, get_or, refl, sym, ap, subst, ◌∙◌, arith, All, insert}
 use Rattle.std.proofs.lemmas.List.Elements.{All-append, All-cons, All-drop, All-set, All-take}
-use Rattle.std.proofs.lemmas.List.{length-map, get_or-map, map-set, map-append, take-map, drop-map}
+use Rattle.std.proofs.lemmas.List.{length-map, get_or-map, map-set}
+use Rattle.ucd_points.specs.PlainProofs.{map_insert}
 use Rattle.part_list.specs.declared.spanned.Spanned.{Spanned}
 use Rattle.release_rows.specs.FileItems.{FileItem}
 use Rattle.release_rows.specs.Operations.{ended, put_in, with_end}
@@ -15,9 +15,6 @@ put_next (x ∷ []) zero d item lt = refl
 put_next (x ∷ y ∷ xs) zero d item lt = refl
 put_next (x ∷ []) (suc at) d item lt = absurd (omega arith)
 put_next (x ∷ y ∷ xs) (suc at) d item lt = ap (λ (is : List FileItem). x ∷ is) (put_next (y ∷ xs) at d item (omega arith))
-
-map_insert : {A : Type 0} {B : Type 0} (f : A → B) (xs : List A) (i : ℕ) (y : A) → map f (insert xs i y) ≡ insert (map f xs) i (f y)
-map_insert f xs i y = rw (map-append f (take i xs) (y ∷ drop i xs), take-map f i xs, drop-map f i xs) refl
 
 -- the same of entries: the items are those with the new one put in
 pub put_behind : (st : Spanned Stretch → FileItem) (xs new : List (Spanned Stretch)) (at : ℕ) (found ended entry : Spanned Stretch) → at < length xs → found ≡ get_or xs at found → st ended ≡ with_end (st found) → new ≡ insert (set xs at ended) (at + 1) entry → map st new ≡ put_in (map st xs) (at + 1) (st entry)

@@ -1,8 +1,6 @@
 -- The items of a file are those that its bytes are cut into again.
-use Rattle.std.proofs.Common.{◌≡◌, ◌≢◌, ℕ, suc, ◌+◌, ◌-◌, ◌≤◌, Bool, true, false, List, [], ◌∷◌, ◌++◌, length, map, take, get_or, Option, Some, None, Ok, refl, sym, ap, subst, ◌∙◌, append_assoc, arith}
+use Rattle.std.proofs.Common.{◌≡◌, ◌≢◌, ℕ, suc, ◌+◌, ◌-◌, Bool, true, false, List, [], ◌∷◌, ◌++◌, length, map, take, get_or, Option, Some, None, Ok, refl, sym, ap, subst, ◌∙◌, append_assoc, arith, nat_eq, All, slice_get}
 use Rattle.std.specs.Option.{option_eq}
-use Rattle.std.specs.Prelude.{nat_eq}
-use Rattle.std.specs.List.{All, slice_get}
 use Rattle.std.proofs.lemmas.Bool.{eqb-true, false≢true, or_parts, le-ltb}
 use Rattle.std.proofs.lemmas.List.{take_all, take_more}
 use Rattle.std.proofs.lemmas.List.Elements.{All-head, All-tail}
@@ -12,13 +10,11 @@ use Rattle.ucd_lines.specs.Laws.{IsLine, AreLines, LinesAreUnique}
 use Rattle.ucd_points.specs.Limits.{file_limit}
 use Rattle.ucd_points.specs.Lines.{LineItem, lf, ended_item, ends_in_return, item_bytes, items_of, is_lf, holds_line_feed, joined}
 use Rattle.ucd_points.specs.MissingLines.{is_trivia}
-use Rattle.ucd_points.specs.declared.files.SourceFile.{SourceFile}
 use Rattle.ucd_points.specs.declared.files.SourceFile.TheVariants.{UnicodeData}
-use Rattle.ucd_facts.specs.declared.row.Row.{Row}
 use Rattle.source_rows.specs.Lines.{is_first_line}
 use Rattle.source_rows.specs.RowLines.{TwoLines, RowsHaveLines}
 use Rattle.release_rows.specs.Cuts.{AreCut, Ascends, IsCut, IsToldApart}
-use Rattle.release_rows.specs.FileItems.{FileItem, bytes_of, rows_in}
+use Rattle.release_rows.specs.FileItems.{FileItem, bytes_of, rows_in, SourceFile, Row}
 use Rattle.release_rows.specs.Laws.{ReloadsTheSame}
 use Rattle.release_rows.specs.Loading.{file_item, file_or_fault, first_fault}
 use Rattle.release_rows.specs.Pieces.{one_line, opens_range, pieces, two_lines}

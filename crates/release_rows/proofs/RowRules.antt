@@ -2,12 +2,11 @@
 use Rattle.std.proofs.Common.{◌≡◌, ℕ, Bool, true, false, cond, ◌&&◌, leb, eqb, List, [], ◌∷◌, map, Option, Some, None, refl, ap, ◌∙◌, arith}
 use Rattle.std.specs.List.{list_any}
 use Rattle.std.proofs.lemmas.Bool.Decides.{nat_tests}
-use Rattle.ucd_points.specs.declared.files.SourceFile.{SourceFile}
-use Rattle.ucd_facts.specs.declared.row.Row.{Row}
+use Rattle.ucd_points.specs.PlainProofs.{any_map}
 use Rattle.release_rows.specs.Extents.{Extent, same_start, meets, conflict_with}
 use Rattle.release_rows.specs.Places.{names_in, extent_at}
 use Rattle.source_rows.specs.Keys.{row_span, key_names}
-use Rattle.release_rows.specs.Keys.{row_end, has_spans, same_key, overlaps, key_rule, extent_in, is_back, last_start, falls_back}
+use Rattle.release_rows.specs.Keys.{row_end, has_spans, same_key, overlaps, key_rule, extent_in, is_back, last_start, falls_back, SourceFile, Row}
 use Rattle.release_rows.specs.Loading.{row_rule, rule_by, load_rule}
 use Rattle.release_rows.specs.declared.sort_key.SortKey.{SortKey}
 use Rattle.release_rows.specs.declared.conflict.Conflict.{Conflict}
@@ -18,10 +17,6 @@ extent_is file row place last names code end = rw (names, code, end) refl
 
 pub same_conflicts : (kept above : List Extent) (x : Extent) → ((p : Extent → Bool) → list_any p kept ≡ list_any p above) → conflict_with kept x ≡ conflict_with above x
 same_conflicts kept above x same = rw (same (same_start x), same (meets x)) refl
-
-any_map : {A B : Type 0} (p : B → Bool) (f : A → B) (xs : List A) → list_any p (map f xs) ≡ list_any (λ x. p (f x)) xs
-any_map p f [] = refl
-any_map p f (x ∷ xs) = rw (any_map p f xs) refl
 
 any_same : {A : Type 0} (p q : A → Bool) (xs : List A) → ((x : A) → p x ≡ q x) → list_any p xs ≡ list_any q xs
 any_same p q [] h = refl

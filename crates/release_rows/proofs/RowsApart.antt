@@ -5,10 +5,8 @@ use Rattle.std.proofs.lemmas.Bool.{and_parts, and_from, or_parts, or_from, eqb-t
 use Rattle.std.proofs.lemmas.Bool.Decides.{nat_tests}
 use Rattle.std.proofs.lemmas.List.Folds.{list_any-append}
 use Rattle.std.specs.Cmp.{both_ways}
-use Rattle.ucd_points.specs.declared.files.SourceFile.{SourceFile}
-use Rattle.ucd_facts.specs.declared.row.Row.{Row}
 use Rattle.source_rows.specs.Keys.{row_span, key_names, same_texts}
-use Rattle.release_rows.specs.Keys.{own_end, same_key, overlaps, key_rule}
+use Rattle.release_rows.specs.Keys.{own_end, same_key, overlaps, key_rule, SourceFile, Row}
 use Rattle.release_rows.specs.Operations.{overlaps_another}
 use Rattle.release_rows.proofs.Texts.{texts_same, texts_itself}
 use Rattle.release_rows.proofs.Apart.{none_by}

@@ -5,15 +5,13 @@ use Rattle.std.specs.Ordering.{ordering_then, nat_cmp, is_eq, is_lt}
 use Rattle.std.proofs.lemmas.Map.Text.{is_eq-slice_cmp}
 use Rattle.std.proofs.Math.Bool.{and-false, and_comm}
 use Rattle.ucd_points.specs.MissingLines.{is_trivia}
-use Rattle.ucd_points.specs.declared.files.SourceFile.{SourceFile}
-use Rattle.ucd_facts.specs.declared.row.Row.{Row}
 use Rattle.ucd_facts.specs.declared.row.Row.TheVariants.{Unit as DataLine, Value as ValueLine, Exclusion as ExclusionLine, Fold as FoldLine, Casing as CasingLine, Alias as AliasLine, Missing as MissingLine}
 use Rattle.source_rows.specs.Faults.{row_or_fault}
 use Rattle.source_rows.specs.Keys.{row_span, key_names, key_code, code_number, same_texts}
 use Rattle.source_rows.specs.KeyNames.{ContentsHaveKeys, content_group, content_names, group_of, names_cmp}
 use Rattle.source_rows.specs.declared.fault.RowFault.{RowFault}
 use Rattle.part_list.specs.declared.spanned.Spanned.{Spanned}
-use Rattle.release_rows.specs.Keys.{has_spans, is_missing_row, own_end, row_end, same_key}
+use Rattle.release_rows.specs.Keys.{has_spans, is_missing_row, own_end, row_end, same_key, SourceFile, Row}
 use Rattle.release_rows.specs.Loading.{content_row, row_read}
 use Rattle.release_rows.specs.Operations.{follows, overlaps_another, row_passes, same_group}
 use Rattle.release_rows.specs.Searches.{Sought, IsSoughtRow, comes_behind, forbids, has_names, is_alike, is_of_group, meets_another, starts_alike}

@@ -4,10 +4,8 @@ use mathlib.Core.Bool.{beq}
 use Rattle.std.specs.List.{All, list_any}
 use Rattle.std.proofs.lemmas.List.Elements.{All-weaker}
 use Rattle.std.proofs.Math.Bool.{and-false, and_comm}
-use Rattle.ucd_points.specs.declared.files.SourceFile.{SourceFile}
-use Rattle.ucd_facts.specs.declared.row.Row.{Row}
 use Rattle.source_rows.specs.KeyNames.{ContentsHaveKeys, has_code}
-use Rattle.source_rows.specs.Keys.{key_names, key_code, code_number, same_code, same_texts}
+use Rattle.source_rows.specs.Keys.{key_names, key_code, code_number, same_code, same_texts, SourceFile, Row}
 use Rattle.source_rows.specs.declared.key.Key.{Key}
 use Rattle.part_list.specs.Finds.{FirstAt}
 use Rattle.part_list.specs.Parts.{flat}

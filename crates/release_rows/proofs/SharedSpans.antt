@@ -1,18 +1,13 @@
 -- Missing rows share their spans: they stand against no row of another key.
-use Rattle.std.proofs.Common.{◌≡◌, ◌⊎◌, ℕ, Bool, true, false, not, eqb, leb, ◌&&◌, List, [], ◌∷◌, refl, ◌∙◌, inl, inr}
-use Rattle.std.specs.Prelude.{codes}
-use Rattle.std.specs.Str.{bytes_eq}
+use Rattle.std.proofs.Common.{◌≡◌, ◌⊎◌, ℕ, Bool, true, false, not, eqb, leb, ◌&&◌, List, [], ◌∷◌, refl, ◌∙◌, inl, inr, arith, codes, bytes_eq}
 use Rattle.std.proofs.lemmas.Bool.Decides.{nat_tests}
-use Rattle.std.proofs.Common.{arith}
 use Rattle.std.proofs.Math.Bool.{and-false}
 use Rattle.ucd_facts.specs.Names.{status_code}
-use Rattle.ucd_points.specs.declared.files.SourceFile.{SourceFile}
 use Rattle.ucd_points.specs.declared.files.SourceFile.TheVariants.{PropList}
 use Rattle.ucd_facts.specs.declared.row.ValueRow.{ValueRow}
-use Rattle.ucd_facts.specs.declared.row.Row.{Row}
 use Rattle.ucd_facts.specs.declared.row.Row.TheVariants.{Unit as DataLine, Value as ValueLine, Exclusion as ExclusionLine, Fold as FoldLine, Casing as CasingLine, Alias as AliasLine, Missing as MissingLine}
 use Rattle.source_rows.specs.Keys.{row_span, condition_names, value_names, missing_names, key_names, same_texts}
-use Rattle.release_rows.specs.Keys.{has_spans, is_missing_row, own_end}
+use Rattle.release_rows.specs.Keys.{has_spans, is_missing_row, own_end, SourceFile, Row}
 use Rattle.release_rows.specs.Operations.{overlaps_another}
 use Rattle.release_rows.specs.OperationLaws.{MissingRowsOverlapNothing}
 use Rattle.release_rows.proofs.RowsApart.{keys_swap, overlaps_swap, texts_swap}

@@ -1,16 +1,13 @@
 -- The items of a loaded file are sound, and so are those after an operation.
-use Rattle.std.proofs.Common.{◌≡◌, ℕ, Bool, true, false, cond, List, [], ◌∷◌, ◌++◌, map, refl, sym, subst, ◌∙◌, append_assoc}
-use Rattle.std.specs.List.{All}
+use Rattle.std.proofs.Common.{◌≡◌, ℕ, Bool, true, false, cond, List, [], ◌∷◌, ◌++◌, map, refl, subst, ◌∙◌, append_assoc, All}
 use Rattle.std.proofs.lemmas.List.Elements.{All-nil, All-cons}
-use Rattle.ucd_lines.specs.Laws.{AreLines, NoLineFeedInside, OnlyTheLastIsUnended, EndingsAreToldApart}
+use Rattle.ucd_lines.specs.Laws.{AreLines, NoLineFeedInside, OnlyTheLastIsUnended, EndingsAreToldApart, lines_behind}
 use Rattle.ucd_points.specs.Lines.{LineItem, LineEnding, unended, lf, cr_lf, ends_in_return, item_bytes, items_of}
-use Rattle.ucd_points.specs.declared.files.SourceFile.{SourceFile}
 use Rattle.release_rows.specs.Cuts.{IsToldApart}
-use Rattle.release_rows.specs.FileItems.{FileItem}
 use Rattle.release_rows.specs.Laws.{LoadedFilesAreSound}
 use Rattle.release_rows.specs.Loading.{file_item, file_or_fault, first_fault}
 use Rattle.release_rows.specs.Pieces.{one_line, opens_range, pieces, two_lines}
-use Rattle.release_rows.specs.Releases.{AreSound}
+use Rattle.release_rows.specs.Releases.{AreSound, FileItem, SourceFile}
 use Rattle.release_rows.proofs.Cuts.{pieces_cut}
 use Rattle.release_rows.proofs.Kept.{kept_below, ok_by}
 use Rattle.release_rows.proofs.Loads.{pieces_ascend}
@@ -18,10 +15,6 @@ use Rattle.release_rows.proofs.Operations.{all_read}
 use Rattle.release_rows.proofs.Reload.{ends_behind}
 
 -- ---- the lines of a text
-
-lines_behind : (bytes : List ℕ) (front lines : List LineItem) → NoLineFeedInside → OnlyTheLastIsUnended → EndingsAreToldApart → items_of bytes ≡ front ++ lines → AreLines lines
-lines_behind bytes front [] feeds ends told e = tt
-lines_behind bytes front (line ∷ lines) feeds ends told e = (record { no_line_feed = feeds bytes front line lines e; last = ends bytes front line lines e; no_return = told bytes front line lines e }, lines_behind bytes (front ++ line ∷ []) lines feeds ends told (e ∙ sym (append_assoc front (line ∷ []) lines)))
 
 -- ---- what LF alone ends
 

@@ -4,15 +4,13 @@ use Rattle.std.proofs.Math.Seq.{take-append_seam, drop-append_seam}
 use Rattle.std.proofs.lemmas.List.{append-nil, map-append, length-take, length_push}
 use Rattle.std.proofs.lemmas.List.Elements.{All-nil, All-cons, All-append}
 use Rattle.std.proofs.lemmas.Grind.{flat_map-append}
-use Rattle.ucd_points.specs.declared.files.SourceFile.{SourceFile}
-use Rattle.ucd_facts.specs.declared.row.Row.{Row}
 use Rattle.ucd_points.specs.Lines.{ending_bytes}
 use Rattle.ucd_lines.specs.Items.{ending_of}
 use Rattle.part_list.specs.Parts.{PartLists, now_in, next_in}
 use Rattle.part_list.specs.declared.spanned.Spanned.{Spanned}
 use Rattle.release_rows.specs.Pieces.{Lines, piece_content, piece_ending, piece_lines}
 use Rattle.release_rows.specs.Entries.{EntersSome}
-use Rattle.release_rows.specs.FileItems.{FileItem, bytes_of, file_item_bytes, lines_of, rows_in}
+use Rattle.release_rows.specs.FileItems.{FileItem, bytes_of, file_item_bytes, lines_of, rows_in, SourceFile, Row}
 use Rattle.release_rows.specs.Loading.{at_line, content_row, file_item, piece_fault}
 use Rattle.release_rows.specs.Progress.{Stands, IsLoading, rule_of, start_of_entry}
 use Rattle.release_rows.specs.StoredItems.{content_at, item_at, stored_at, IsItem, IsStored, HasSpan}

@@ -1,15 +1,13 @@
 -- Tags of rows: rows of one key have one tag, rows of one group too, and tags do not descend where keys ascend.
-use Rattle.std.proofs.Common.{◌≡◌, ℕ, ◌-◌, ◌<◌, ◌≤◌, ◌⊎◌, Bool, true, false, leb, ltb, ◌&&◌, ◌||◌, List, [], ◌∷◌, take, suc, refl, sym, ap, subst, ◌∙◌, inl, inr, arith}
+use Rattle.std.proofs.Common.{◌≡◌, ℕ, ◌-◌, ◌<◌, ◌≤◌, ◌⊎◌, Bool, true, false, leb, ltb, ◌&&◌, ◌||◌, List, [], ◌∷◌, take, suc, refl, sym, ap, subst, ◌∙◌, inl, inr, arith, bytes_eq, Ordering, Less, Equal, Greater}
 use Rattle.std.specs.Cmp.Lexicographic.{slice_cmp}
 use Rattle.std.specs.Cmp.{nat_cmp_is}
 use Rattle.std.specs.Ordering.{ordering_then, nat_cmp, is_eq, is_lt}
-use Rattle.std.specs.Str.{bytes_eq}
-use Rattle.std.specs.declared.cmp.Ordering.{Ordering}
-use Rattle.std.specs.declared.cmp.Ordering.TheVariants.{Less, Equal, Greater}
 use Rattle.std.proofs.lemmas.Bool.{and_parts, cases_lt, eq-eqb}
 use Rattle.std.proofs.lemmas.Bool.Decides.{nat_tests}
 use Rattle.std.proofs.lemmas.Map.Text.{is_eq-slice_cmp}
 use Rattle.std.proofs.lemmas.Slice.Eq.{bytes_eq-Decides}
+use Rattle.ucd_points.specs.PlainProofs.{equal_is}
 use Rattle.ucd_points.specs.Fields.{field, fields}
 use Rattle.ucd_points.specs.declared.files.SourceFile.{SourceFile}
 use Rattle.ucd_points.specs.declared.files.SourceFile.TheVariants.{UnicodeData, PropList, Scripts, WordBreakProperty, CompositionExclusions, CaseFolding, SpecialCasing, PropertyAliases, PropertyValueAliases}
@@ -17,7 +15,7 @@ use Rattle.source_rows.specs.KeyNames.{content_group, content_names, names_cmp}
 use Rattle.release_rows.specs.Searches.{has_names, is_of_group, is_row}
 use Rattle.release_rows.specs.Tags.{HasTag, behind_first, content_tag, digit, end_of, first_digit, is_inner, key_tag, number, tag_fits, tag_rises, tells_group, tells_key, tells_order}
 use Rattle.release_rows.proofs.ConditionTags.{conditions_number}
-use Rattle.release_rows.proofs.Texts.{equal_is, is_eq-then}
+use Rattle.release_rows.proofs.Texts.{is_eq-then}
 
 -- ---- texts in order
 

@@ -1,40 +1,23 @@
 -- Texts and the names that stand in them: when they are the same.
-use Rattle.std.proofs.Common.{◌≡◌, ℕ, true, ◌&&◌, List, [], ◌∷◌, refl, sym, ap, ◌∙◌}
-use Rattle.std.specs.declared.cmp.Ordering.{Ordering}
-use Rattle.std.specs.declared.cmp.Ordering.TheVariants.{Less, Equal, Greater}
+use Rattle.std.proofs.Common.{◌≡◌, ℕ, true, ◌&&◌, List, [], ◌∷◌, refl, sym, ap, ◌∙◌, Ordering, bytes_eq}
 use Rattle.std.specs.Ordering.{ordering_then, is_eq}
 use Rattle.std.specs.List.{join_with_byte}
-use Rattle.std.specs.Str.{bytes_eq}
-use Rattle.std.proofs.lemmas.Bool.{and_parts, and_from}
 use Rattle.std.proofs.lemmas.List.Splits.{join_with_byte-slice_split}
-use Rattle.std.proofs.lemmas.Slice.Eq.{bytes_eq-Decides}
-use Rattle.std.specs.Cmp.{both_ways}
+use Rattle.std.proofs.lemmas.Slice.Eq.{bytes_eq-Decides, slice_eq-Decides}
+use Rattle.std.specs.Cmp.{both_ways, tied_then}
 use Rattle.source_rows.specs.Keys.{same_texts}
 use Rattle.release_rows.specs.Places.{names_of}
 
 -- what is equal in two steps is equal in both
 pub is_eq-then : (a b : Ordering) → is_eq (ordering_then a b) ≡ (is_eq a && is_eq b)
-is_eq-then Less b = refl
-is_eq-then Equal b = refl
-is_eq-then Greater b = refl
-
-pub equal_is : (o : Ordering) → is_eq o ≡ true → o ≡ Equal
-equal_is Less h = absurd cc
-equal_is Equal h = refl
-equal_is Greater h = absurd cc
+is_eq-then a b = sym (tied_then a b)
 
 pub texts_same : (a b : List (List ℕ)) → same_texts a b ≡ true → a ≡ b
-texts_same [] [] h = refl
-texts_same [] (y ∷ b) h = absurd cc
-texts_same (x ∷ a) [] h = absurd cc
-texts_same (x ∷ a) (y ∷ b) h =
-    let parts = and_parts (bytes_eq x y) (same_texts a b) h in
-    rw ((bytes_eq-Decides x y).0 parts.0, texts_same a b parts.1) refl
+texts_same a b = (slice_eq-Decides bytes_eq-Decides a b (same_texts a b) refl).0
 
 -- texts are the same as themselves
 pub texts_itself : (a : List (List ℕ)) → same_texts a a ≡ true
-texts_itself [] = refl
-texts_itself (x ∷ a) = and_from (bytes_eq x x) (same_texts a a) ((bytes_eq-Decides x x).1 refl) (texts_itself a)
+texts_itself a = (slice_eq-Decides bytes_eq-Decides a a (same_texts a a) refl).1 refl
 
 -- the names of a text, put together again, are the text
 joined_again : (a : List ℕ) → join_with_byte 59 (names_of a) ≡ a

@@ -7,9 +7,8 @@ use Rattle.std.proofs.lemmas.List.Elements.{filter-append}
 use Rattle.std.proofs.lemmas.List.Folds.{list_any-append}
 use Rattle.ucd_facts.specs.Facts.{within}
 use Rattle.ucd_points.specs.SourceFiles.{file_place}
-use Rattle.ucd_facts.specs.declared.row.Row.{Row}
 use Rattle.part_list.specs.Parts.{spliced}
-use Rattle.release_rows.specs.FileItems.{FileItem, onto_rows, rows_in}
+use Rattle.release_rows.specs.FileItems.{FileItem, onto_rows, rows_in, Row}
 use Rattle.release_rows.specs.OperationLaws.{speaks_of}
 use Rattle.release_rows.specs.Operations.{spans_of}
 use Rattle.release_rows.specs.Patches.{RowsStayBack, SpliceItems, Stands, item_spans, patch_spans, undone}

@@ -8,14 +8,11 @@ use Rattle.std.proofs.lemmas.List.Elements.{All-filter, All-head, All-tail, All-
 use Rattle.std.proofs.lemmas.List.Folds.{list_any-append}
 use Rattle.ucd_points.specs.Lines.{LineEnding, cr_lf, lf, unended}
 use Rattle.ucd_points.specs.SourceFiles.{file_place}
-use Rattle.ucd_points.specs.declared.files.SourceFile.{SourceFile}
-use Rattle.ucd_facts.specs.declared.row.Row.{Row}
 use Rattle.source_rows.specs.Keys.{key_names}
-use Rattle.release_rows.specs.FileItems.{FileItem}
 use Rattle.release_rows.specs.FileLemmas.{items_at-with_items_other}
 use Rattle.release_rows.specs.Keys.{overlaps, same_key}
 use Rattle.release_rows.specs.Operations.{added_item, changed_item, edited, ended, has_key, holds_row, op_file, overlaps_another, place_in, put_in, row_passes, with_edited, with_end}
-use Rattle.release_rows.specs.Releases.{items_at, with_items}
+use Rattle.release_rows.specs.Releases.{items_at, with_items, FileItem, SourceFile, Row}
 use Rattle.release_rows.specs.Unchanged.{EverythingElseStays, HasEnd, KeepsFiles, KeepsOthers, KeepsPlace, ended_at, has_row, in_front, others, standing}
 use Rattle.release_rows.specs.declared.key_rule.KeyRule.{KeyRule}
 use Rattle.release_rows.specs.declared.key_rule.KeyRule.TheVariants.{K1, K2, K4}
@@ -31,7 +28,7 @@ contents_ended [] = refl
 contents_ended (item ∷ []) = refl
 contents_ended (item ∷ next ∷ items) = ap (λ (cs : List (List ℕ)). item.content ∷ cs) (contents_ended (next ∷ items))
 
-length-ended : (items : List FileItem) → length (ended items) ≡ length items
+pub length-ended : (items : List FileItem) → length (ended items) ≡ length items
 length-ended [] = refl
 length-ended (item ∷ []) = refl
 length-ended (item ∷ next ∷ items) = ap suc (length-ended (next ∷ items))

@@ -1,13 +1,9 @@
 -- Items that are gone over one by one.
-use Rattle.std.proofs.Common.{◌≡◌, ℕ, ◌+◌, true, false, List, ◌∷◌, ◌++◌, length, map, Option, Some, None, refl, sym, ap, subst, ◌∙◌, append_assoc, arith}
-use Rattle.std.specs.List.{All}
-use Rattle.std.proofs.lemmas.Bool.{true≢false}
+use Rattle.std.proofs.Common.{◌≡◌, ℕ, ◌+◌, true, false, List, ◌∷◌, ◌++◌, length, map, Option, Some, None, refl, sym, ap, subst, ◌∙◌, append_assoc, arith, All, true≢false}
 use Rattle.std.proofs.lemmas.List.Elements.{All-head, All-rest}
 use Rattle.ucd_points.specs.MissingLines.{is_trivia}
-use Rattle.ucd_points.specs.declared.files.SourceFile.{SourceFile}
-use Rattle.ucd_facts.specs.declared.row.Row.{Row}
 use Rattle.part_list.specs.declared.spanned.Spanned.{Spanned}
-use Rattle.release_rows.specs.FileItems.{bytes_of, file_item_bytes}
+use Rattle.release_rows.specs.FileItems.{bytes_of, file_item_bytes, SourceFile, Row}
 use Rattle.release_rows.specs.Releases.{numbered_rows, onto_numbered}
 use Rattle.release_rows.specs.StoredItems.{content_at, item_at, read_as, stored_at, IsStored}
 use Rattle.release_rows.specs.Walking.{IsWalk}

@@ -1,18 +1,14 @@
 -- How a patch is made.
---
 -- Grew old new               the new text is the old one with more behind it
 -- AreCopies file from entries text copies   the copies stand in the text, and are the items that the entries are in the text `from`
 -- LeadsOn old new file next now   wherever the old patch leads to nine files of which this one has the items next, the new patch leads to
 --                            the same files with the items now in it
 -- turned items slot          the list that has the entries now of the parts before the slot, and the entries next of the others
-use Rattle.std.specs.Prelude.{◌≡◌, ℕ, List, ◌++◌, length, map, take, drop}
-use Rattle.std.specs.List.{All}
-use Rattle.ucd_points.specs.declared.files.SourceFile.{SourceFile}
+use Rattle.std.specs.Prelude.{◌≡◌, ℕ, List, ◌++◌, length, map, take, drop, All}
 use Rattle.part_list.specs.Parts.{PartLists, flat}
 use Rattle.part_list.specs.declared.spanned.Spanned.{Spanned}
-use Rattle.release_rows.specs.FileItems.{FileItem}
 use Rattle.release_rows.specs.Patches.{LeadsBack, SpliceItems}
-use Rattle.release_rows.specs.Releases.{items_at, with_items}
+use Rattle.release_rows.specs.Releases.{items_at, with_items, FileItem, SourceFile}
 use Rattle.release_rows.specs.StoredItems.{IsStored, stored_at}
 use Rattle.release_rows.specs.declared.stretch.Stretch.{Stretch}
 

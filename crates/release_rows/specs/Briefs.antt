@@ -1,5 +1,4 @@
 -- What is kept of what the row of an item gives to its code points.
---
 -- no_brief                    nothing is kept: category Cn, which no row gives
 -- is_plain kind mapping       there is no decomposition mapping
 -- is_bare plain upper lower title   nor a simple case mapping

@@ -1,5 +1,4 @@
 -- Rows in the order of their keys.
---
 -- placed_extent row     the names of the row's key, and its code points
 -- IsOrderedPlace row    the row does not end before it begins
 -- places_meet a b       the rows have the same names and share a code point

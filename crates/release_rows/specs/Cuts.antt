@@ -1,5 +1,4 @@
 -- What the items of a file keep so that they are the items of their bytes.
---
 -- begins_from c row      the row begins at c or behind it
 -- Rises rows             no row begins below a row above it
 -- Ascends file rows      the rows of UnicodeData.txt rise; those of other files need not
@@ -7,14 +6,11 @@
 --                        one, and not empty
 -- AreCut items           each item is, with those behind it
 -- IsToldApart item       an item that LF alone ends does not end in CR: read again, that CR would be part of the line end
-use Rattle.std.specs.Prelude.{◌≡◌, ◌≢◌, ℕ, ◌+◌, ◌≤◌, false, List, [], ◌∷◌, None, count_by}
-use Rattle.std.specs.List.{All}
+use Rattle.std.specs.Prelude.{◌≡◌, ◌≢◌, ℕ, ◌+◌, ◌≤◌, false, List, [], ◌∷◌, None, count_by, All}
 use Rattle.ucd_points.specs.Lines.{unended, lf, is_lf, holds_line_feed, ends_in_return}
-use Rattle.ucd_points.specs.declared.files.SourceFile.{SourceFile}
 use Rattle.ucd_points.specs.declared.files.SourceFile.TheVariants.{UnicodeData}
-use Rattle.ucd_facts.specs.declared.row.Row.{Row}
 use Rattle.source_rows.specs.Keys.{row_span}
-use Rattle.release_rows.specs.FileItems.{FileItem}
+use Rattle.release_rows.specs.FileItems.{FileItem, SourceFile, Row}
 
 abbrev pub begins_from : ℕ → Row → Type 0
 begins_from c row = c ≤ (row_span row).lo

@@ -1,20 +1,17 @@
 -- What is kept of a row while its file is loaded: its key, the last code point that no other row may have, and what is kept of what
 -- the row gives.
---
 -- IsFree result place rule     the place is handed back where there is no rule, else the result is the rule
 -- IsEntry file row e           e has the names of the row's key, its first code point, the last one that may not be shared, the last one
 --                              of all, and what is kept of what the row gives
 -- EntersAs file result row     the result is what is kept of the row, or the fault; no claim if memory ran out
 -- EntersSome file o row        o is what is kept of the row, where there is one; None where there is none
 use Rattle.std.specs.Prelude.{◌≡◌, ◌≤◌, Option, Some, None, Result, Ok, Err}
-use Rattle.ucd_points.specs.declared.files.SourceFile.{SourceFile}
-use Rattle.ucd_facts.specs.declared.row.Row.{Row}
 use Rattle.source_rows.specs.declared.fault.RowFault.{RowFault}
 use Rattle.source_rows.specs.declared.fault.RowStop.{RowStop}
 use Rattle.source_rows.specs.declared.fault.RowStop.TheVariants.{Fault, Memory}
 use Rattle.source_rows.specs.Keys.{row_span, key_names}
 use Rattle.release_rows.specs.Briefs.{brief_of}
-use Rattle.release_rows.specs.Keys.{row_end}
+use Rattle.release_rows.specs.Keys.{row_end, SourceFile, Row}
 use Rattle.release_rows.specs.Places.{names_in}
 use Rattle.release_rows.specs.declared.entry.Entry.{Entry}
 use Rattle.release_rows.specs.declared.conflict.Conflict.{Conflict}

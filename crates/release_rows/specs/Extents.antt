@@ -1,5 +1,4 @@
 -- Where rows lie: the names of a row's key, and the code points from the one in its key on.
---
 -- Extent                  names, and the code points from first to last, both of them in it
 -- same_start a b          the names are the same, and the first code points: the rows have the same key
 -- meets a b               the names are the same, and the extents share a code point

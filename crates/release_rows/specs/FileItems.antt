@@ -1,5 +1,4 @@
 -- The items of a file: trivia, and rows with the bytes that they stand in.
---
 -- FileItem               the content of a row or of a line of trivia, what ends it, how many lines it has, and the row; None for
 --                        trivia
 -- FileLists              a file with its items now, and those that are to be the next ones
@@ -8,11 +7,10 @@
 -- file_item_bytes item   the content and the bytes of the ending
 -- bytes_of items         contents and endings put together; no bytes for no items
 -- lines_of items         how many lines they have
-use Rattle.std.specs.Prelude.{ℕ, List, [], ◌∷◌, ◌++◌, Option, Some, None}
-use Rattle.std.specs.List.{flat_map, sum_by}
+use Rattle.std.specs.Prelude.{ℕ, List, [], ◌∷◌, ◌++◌, Option, Some, None, flat_map, sum_by}
 use Rattle.ucd_points.specs.Lines.{LineEnding, ending_bytes}
-use Rattle.ucd_points.specs.declared.files.SourceFile.{SourceFile}
-use Rattle.ucd_facts.specs.declared.row.Row.{Row}
+pub use Rattle.ucd_points.specs.declared.files.SourceFile.{SourceFile}
+pub use Rattle.ucd_facts.specs.declared.row.Row.{Row}
 
 pub record FileItem : Type 0 where
   pub content : List ℕ

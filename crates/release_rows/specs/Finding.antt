@@ -1,5 +1,4 @@
 -- What the searches of an operation answer.
---
 -- items_of file text parts             the items of the entries of the parts
 -- FindsGap result file text row parts  the gap of an added row, where none has its key and none overlaps it; or the rule
 -- IsFirst spot p items parts           the entry at the spot has the first row that passes
@@ -8,12 +7,10 @@
 --                                      or the rule
 use Rattle.std.specs.List.{position_or_len}
 use Rattle.std.specs.Prelude.{◌≡◌, ℕ, Bool, true, false, List, map, Result, Ok, Err}
-use Rattle.ucd_points.specs.declared.files.SourceFile.{SourceFile}
-use Rattle.ucd_facts.specs.declared.row.Row.{Row}
 use Rattle.part_list.specs.Parts.{IsEntry, flat, place}
 use Rattle.part_list.specs.declared.spanned.Spanned.{Spanned}
 use Rattle.part_list.specs.declared.spot.Spot.{Spot}
-use Rattle.release_rows.specs.FileItems.{FileItem}
+use Rattle.release_rows.specs.FileItems.{FileItem, SourceFile, Row}
 use Rattle.release_rows.specs.Gaps.{IsGapAt}
 use Rattle.release_rows.specs.Keys.{overlaps, same_key}
 use Rattle.release_rows.specs.Operations.{holds_row, overlaps_another, place_in, row_passes}

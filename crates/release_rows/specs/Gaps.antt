@@ -1,5 +1,4 @@
 -- Where an entry is put.
---
 -- IsGapAt gap n parts    the gap is that behind the first n entries: the one before the first entry, the one behind the entry at
 --                        the place before n, or the only one of a list without entries
 use Rattle.std.specs.Prelude.{◌≡◌, ℕ, ◌+◌, List, length}

@@ -1,13 +1,9 @@
 -- The keys of rows that are compared once all of them are there.
---
 -- placed_of entry           what is put behind them: the key of a row, and nothing of trivia
 -- AreGathered file rows ps  they are those of the rows, in their order
-use Rattle.std.specs.Prelude.{◌≡◌, List, [], ◌∷◌, map, Option, Some, None}
-use Rattle.std.specs.List.{All}
-use Rattle.ucd_points.specs.declared.files.SourceFile.{SourceFile}
-use Rattle.ucd_facts.specs.declared.row.Row.{Row}
+use Rattle.std.specs.Prelude.{◌≡◌, List, [], ◌∷◌, map, Option, Some, None, All}
 use Rattle.release_rows.specs.Chains.{IsOrderedPlace, placed_extent}
-use Rattle.release_rows.specs.Keys.{extent_in}
+use Rattle.release_rows.specs.Keys.{extent_in, SourceFile, Row}
 use Rattle.release_rows.specs.declared.entry.Entry.{Entry}
 use Rattle.release_rows.specs.declared.keyed_extent.KeyedExtent.{KeyedExtent}
 

@@ -1,5 +1,4 @@
 -- What rows of UnicodeData.txt give to their code points.
---
 -- ShowsGiven given row      what is given is what the row gives, of UnicodeData.txt; None of the rows of the other files
 use Rattle.std.specs.Prelude.{Option, Some, None}
 use Rattle.ucd_facts.specs.declared.row.Row.{Row}

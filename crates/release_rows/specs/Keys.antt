@@ -1,5 +1,4 @@
 -- The keys of rows, and which rows of one file may not stand together.
---
 -- same_key file a b           the rows have one key: K1
 -- has_spans file              the rows of the file have spans that may not overlap
 -- spans_meet a b              the spans share a code point
@@ -21,9 +20,9 @@ use Rattle.std.specs.Prelude.{ℕ, Bool, true, false, ◌&&◌, List, [], ◌∷
 use Rattle.std.specs.List.{list_any}
 use Rattle.ucd_points.specs.Bounds.{Bounds}
 use Rattle.ucd_points.specs.MissingLines.{takes_missing}
-use Rattle.ucd_points.specs.declared.files.SourceFile.{SourceFile}
+pub use Rattle.ucd_points.specs.declared.files.SourceFile.{SourceFile}
 use Rattle.ucd_points.specs.declared.files.SourceFile.TheVariants.{UnicodeData, PropList, Scripts, WordBreakProperty, CompositionExclusions}
-use Rattle.ucd_facts.specs.declared.row.Row.{Row}
+pub use Rattle.ucd_facts.specs.declared.row.Row.{Row}
 use Rattle.ucd_facts.specs.declared.row.Row.TheVariants.{Missing as MissingLine}
 use Rattle.source_rows.specs.Keys.{row_span, key_names, same_texts}
 use Rattle.release_rows.specs.Extents.{Extent}

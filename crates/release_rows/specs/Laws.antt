@@ -1,5 +1,4 @@
 -- Laws of loaded files.
---
 -- NoFaultBelow file above ps        no piece has a fault below the items above them all and those of the pieces above it
 -- NoFault file ps                   no piece has a fault below the items of the pieces above it
 -- FirstFaultBelow file above ps f   f is the fault of one of the pieces, and no piece above that one has a fault, below those
@@ -12,14 +11,12 @@
 -- Reloads file items                the bytes of the items are loaded as these items, if they are within the limit and no item that LF
 --                                   alone ends ends in CR
 -- ReloadsTheSame                    so it is of sound items
-use Rattle.std.specs.Prelude.{◌≡◌, ◌↔◌, ℕ, ◌≤◌, List, [], ◌∷◌, ◌++◌, map, length, Some, None, Ok, Err}
-use Rattle.std.specs.List.{All}
+use Rattle.std.specs.Prelude.{◌≡◌, ◌↔◌, ℕ, ◌≤◌, List, [], ◌∷◌, ◌++◌, map, length, Some, None, Ok, Err, All}
 use Rattle.ucd_points.specs.Limits.{file_limit}
 use Rattle.ucd_points.specs.Lines.{items_of}
-use Rattle.ucd_points.specs.declared.files.SourceFile.{SourceFile}
 use Rattle.release_rows.specs.Cuts.{IsToldApart}
 use Rattle.release_rows.specs.Pieces.{Lines, pieces}
-use Rattle.release_rows.specs.FileItems.{FileItem, bytes_of}
+use Rattle.release_rows.specs.FileItems.{FileItem, bytes_of, SourceFile}
 use Rattle.release_rows.specs.Loading.{LoadFault, file_item, piece_fault, file_or_fault, load_or_fault}
 use Rattle.release_rows.specs.Releases.{AreSound}
 

@@ -1,18 +1,13 @@
 -- Leads: rows with counts of items among which no row of their group has a greater key.
---
 -- NoneFollows file row items   none of the items has a row that follows this one
 -- GivesRow file text item row   the stretch lies within the text, and its content reads as the row
 -- IsLead file text items lead   the lead's stretch gives a row of its code point, which none of its count of items follows
 -- AreLeads file text items leads   so it is of each lead
 -- KeepLeads file text items leads   so it is of each lead that is kept
-use Rattle.std.specs.Prelude.{◌≡◌, ℕ, ◌+◌, ◌≤◌, false, List, length, take, Ok}
-use Rattle.std.specs.List.{All}
-use Rattle.std.specs.Option.{IfSome}
-use Rattle.ucd_points.specs.declared.files.SourceFile.{SourceFile}
-use Rattle.ucd_facts.specs.declared.row.Row.{Row}
+use Rattle.std.specs.Prelude.{◌≡◌, ℕ, ◌+◌, ◌≤◌, false, List, length, take, Ok, All, IfSome}
 use Rattle.source_rows.specs.Faults.{row_or_fault}
 use Rattle.source_rows.specs.Keys.{row_span}
-use Rattle.release_rows.specs.FileItems.{FileItem}
+use Rattle.release_rows.specs.FileItems.{FileItem, SourceFile, Row}
 use Rattle.release_rows.specs.Operations.{follows, row_passes}
 use Rattle.release_rows.specs.StoredItems.{content_at}
 use Rattle.release_rows.specs.declared.lead.Lead.{Lead}

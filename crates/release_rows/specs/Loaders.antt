@@ -1,16 +1,13 @@
 -- The loader of the code, as the definitions name it.
---
 -- items_above l   the items so far
 -- progress_of l   the file, its text and the items so far
 -- IsSound l       its fields are IsLoading: so they are but after an error
 -- IsLoaded file text items   these entries are the file's items, which put together are its text
 -- LoadsList file text r      the result is that of the file: its entries, or its first fault
-use Rattle.std.specs.Prelude.{◌≡◌, ℕ, ◌<◌, ◌^◌, List, map, length, Result, Ok, Err}
-use Rattle.std.specs.List.{All}
-use Rattle.ucd_points.specs.declared.files.SourceFile.{SourceFile}
+use Rattle.std.specs.Prelude.{◌≡◌, ℕ, ◌<◌, ◌^◌, List, map, length, Result, Ok, Err, All}
 use Rattle.part_list.specs.Parts.{PartLists, now_in, next_in}
 use Rattle.part_list.specs.declared.spanned.Spanned.{Spanned}
-use Rattle.release_rows.specs.FileItems.{FileItem}
+use Rattle.release_rows.specs.FileItems.{FileItem, SourceFile}
 use Rattle.release_rows.specs.Progress.{Progress, IsLoading}
 use Rattle.release_rows.specs.Loading.{file_or_fault}
 use Rattle.release_rows.specs.StoredItems.{stored_at, IsStored, IsWhole}

@@ -1,5 +1,4 @@
 -- The items of a file, or the first line that breaks a rule.
---
 -- LoadFault                          the number of a line, and the rule that is broken there
 -- some_row result                    the same result, with the row as one that is there
 -- content_row file content           nothing of trivia; else the row that the content stands for, or its first fault
@@ -28,14 +27,12 @@ use Rattle.std.specs.Prelude.{ℕ, ◌+◌, Bool, true, false, ◌&&◌, List, [
 use Rattle.ucd_points.specs.Limits.{file_limit}
 use Rattle.ucd_points.specs.Lines.{items_of}
 use Rattle.ucd_points.specs.MissingLines.{is_trivia}
-use Rattle.ucd_points.specs.declared.files.SourceFile.{SourceFile}
-use Rattle.ucd_facts.specs.declared.row.Row.{Row}
 use Rattle.source_rows.specs.Faults.{row_or_fault}
 use Rattle.source_rows.specs.declared.fault.RowFault.{RowFault}
 use Rattle.source_rows.specs.declared.fault.RowFault.TheVariants.{G04, G09}
 use Rattle.release_rows.specs.Keys.{key_rule, falls_back}
 use Rattle.release_rows.specs.Pieces.{Lines, pieces, piece_content, piece_ending, piece_lines}
-use Rattle.release_rows.specs.FileItems.{FileItem, rows_in, lines_of}
+use Rattle.release_rows.specs.FileItems.{FileItem, rows_in, lines_of, SourceFile, Row}
 use Rattle.release_rows.specs.declared.conflict.Conflict.{Conflict}
 use Rattle.release_rows.specs.declared.conflict.Conflict.TheVariants.{K1, K4}
 use Rattle.release_rows.specs.declared.load_stop.LoadRule.{LoadRule}

@@ -1,5 +1,4 @@
 -- The entries of a file that share a code point with spans.
---
 -- entry_meets spans e    the code points from the first to the last one of the entry share one with some of the spans
 use Rattle.std.specs.Prelude.{Bool, List}
 use Rattle.std.specs.List.{list_any}

@@ -1,5 +1,4 @@
 -- The code points of rows without names, and the end of extents.
---
 -- nameless_extent run       the extent of a row whose key has no names
 -- is_from end x        the extent begins or ends at this number or behind it
 -- AllBefore end above  no extent does

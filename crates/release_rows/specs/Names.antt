@@ -1,5 +1,4 @@
 -- The names of a row of names, put together.
---
 -- first_names count ns     the first names, as many as there are up to the count, with `;` between them
 use Rattle.std.specs.Prelude.{ℕ, List, take}
 use Rattle.std.specs.List.{join_with_byte}

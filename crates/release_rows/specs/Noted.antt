@@ -1,5 +1,4 @@
 -- The groups and the keys of the rows of a file, as numbers.
---
 -- hash_on hash bytes          the hash with more bytes: each is one more digit of base 2654435761, and no digit is 0; what is left of that
 --                             number when it is divided by 4294967291, a prime
 -- names_hash hash names       the hash with more names, each with a `;` behind it
@@ -10,18 +9,15 @@
 -- ItemNoted file seen_hashes item   so it is of the item's row, if it has a row
 -- AreNoted file seen_hashes items   so it is of each item
 -- KeepNotes file text seen_hashes items   so it is of the items now, and of those next
-use Rattle.std.specs.Prelude.{◌≡◌, ℕ, ◌+◌, ◌*◌, ◌%◌, true, List, [], ◌∷◌, map, Option, Some, None, codes}
-use Rattle.std.specs.List.{All}
-use Rattle.ucd_points.specs.declared.files.SourceFile.{SourceFile}
+use Rattle.std.specs.Prelude.{◌≡◌, ℕ, ◌+◌, ◌*◌, ◌%◌, true, List, [], ◌∷◌, map, Option, Some, None, codes, All}
 use Rattle.ucd_points.specs.declared.files.SourceFile.TheVariants.{PropList, SpecialCasing, PropertyAliases, PropertyValueAliases}
-use Rattle.ucd_facts.specs.declared.row.Row.{Row}
 use Rattle.source_rows.specs.KeyNames.{group_of}
 use Rattle.source_rows.specs.Keys.{key_names, row_span}
 use Rattle.part_list.specs.Parts.{PartLists, now_in, next_in}
 use Rattle.part_list.specs.SeenNumbers.{may_have}
 use Rattle.part_list.specs.declared.spanned.Spanned.{Spanned}
 use Rattle.part_list.specs.declared.seen_numbers.SeenNumbers.{SeenNumbers}
-use Rattle.release_rows.specs.FileItems.{FileItem}
+use Rattle.release_rows.specs.FileItems.{FileItem, SourceFile, Row}
 use Rattle.release_rows.specs.StoredItems.{stored_at}
 use Rattle.release_rows.specs.declared.stretch.Stretch.{Stretch}
 

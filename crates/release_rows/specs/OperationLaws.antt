@@ -1,5 +1,4 @@
 -- Laws of operations.
---
 -- OperationsKeepRows    where the items of a file are kept, they are so after an operation on the file: each item is read from its
 --                       content, keys differ, and rows do not overlap where the file forbids it
 -- OperationsKeepOrder   where the rows of UnicodeData.txt ascend, they do so after an operation
@@ -10,10 +9,8 @@
 use Rattle.std.specs.Prelude.{◌≡◌, ℕ, Bool, true, false, List, Ok}
 use Rattle.std.specs.List.{filter, list_any}
 use Rattle.ucd_facts.specs.Facts.{within}
-use Rattle.ucd_points.specs.declared.files.SourceFile.{SourceFile}
-use Rattle.ucd_facts.specs.declared.row.Row.{Row}
 use Rattle.release_rows.specs.Cuts.{AreCut, Ascends}
-use Rattle.release_rows.specs.FileItems.{FileItem, rows_in}
+use Rattle.release_rows.specs.FileItems.{FileItem, rows_in, SourceFile, Row}
 use Rattle.release_rows.specs.Keys.{is_missing_row}
 use Rattle.release_rows.specs.Operations.{IsOp, edited, op_file, overlaps_another, row_spans, touched}
 use Rattle.release_rows.specs.Releases.{AreKept}

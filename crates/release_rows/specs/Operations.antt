@@ -1,5 +1,4 @@
 -- One operation on the rows of a file: which rule it breaks, and what the items are after it.
---
 -- row_passes p item            the item has a row, and that passes the test; never so of trivia
 -- holds_row p items            some row passes
 -- has_key file key row         the row has this key
@@ -29,23 +28,18 @@
 -- AnswersOp result expected spans old new   what an operation answers and what is next then: these spans and what is expected; the
 --                              rule that is expected and what was next; what was next if memory ran out
 -- touched items op             those of the rows with the operation's key that are taken out, and then those of its row
-use Rattle.std.specs.Prelude.{◌≡◌, ℕ, ◌+◌, ◌-◌, Bool, false, ◌&&◌, not, List, [], ◌∷◌, ◌++◌, map, take, drop, length, filter, Option, Some, None, Result, Ok, Err, count_by, if◌then◌else◌}
+use Rattle.std.specs.Prelude.{◌≡◌, ℕ, ◌+◌, ◌-◌, Bool, false, ◌&&◌, not, List, [], ◌∷◌, ◌++◌, map, take, drop, length, filter, Option, Some, None, Result, Ok, Err, count_by, if◌then◌else◌, option_to_list, bytes_eq}
 use Rattle.std.specs.List.{list_any, position_or_len, suffix_len, flat_map}
-use Rattle.std.specs.Option.{option_to_list}
-use Rattle.std.specs.Str.{bytes_eq}
 use Rattle.ucd_points.specs.Bounds.{Bounds}
 use Rattle.ucd_points.specs.Lines.{LineEnding, unended, lf, cr_lf, is_lf}
 use Rattle.ucd_facts.specs.RowSpans.{span_in}
 use Rattle.ucd_facts.specs.RowValues.{RowOk}
-use Rattle.ucd_points.specs.declared.files.SourceFile.{SourceFile}
-use Rattle.ucd_facts.specs.declared.row.Row.{Row}
 use Rattle.source_rows.specs.Faults.{row_or_fault}
 use Rattle.source_rows.specs.Keys.{key_of, equal_keys, is_before}
 use Rattle.source_rows.specs.KeyNames.{group_of}
 use Rattle.source_rows.specs.declared.key.Key.{Key}
-use Rattle.release_rows.specs.FileItems.{FileItem}
 use Rattle.release_rows.specs.Keys.{is_missing_in, same_key, overlaps}
-use Rattle.release_rows.specs.Releases.{items_at, with_items}
+use Rattle.release_rows.specs.Releases.{items_at, with_items, FileItem, SourceFile, Row}
 use Rattle.release_rows.specs.declared.key_rule.KeyRule.{KeyRule}
 use Rattle.release_rows.specs.declared.key_rule.KeyRule.TheVariants.{K1, K2, K4}
 use Rattle.release_rows.specs.declared.operation.Op.{Op}

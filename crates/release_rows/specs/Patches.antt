@@ -1,5 +1,4 @@
 -- Patches: the way from later items of files back to earlier ones.
---
 -- SpliceItems                a file, a place among its items, counted from 0, the items that stand there, and those that stood
 --                            there before
 -- Stands s items             the later items of the splice stand at its place among these
@@ -16,11 +15,10 @@
 use Rattle.std.specs.Prelude.{◌≡◌, ℕ, ◌+◌, ◌≤◌, false, List, [], ◌∷◌, ◌++◌, length, take, drop, Result, Ok, Err}
 use Rattle.std.specs.List.{filter, flat_map, list_any}
 use Rattle.ucd_points.specs.Bounds.{Bounds}
-use Rattle.ucd_points.specs.declared.files.SourceFile.{SourceFile}
 use Rattle.ucd_points.specs.declared.memory.Memory.{Memory}
 use Rattle.ucd_facts.specs.Facts.{within}
 use Rattle.part_list.specs.Parts.{spliced}
-use Rattle.release_rows.specs.FileItems.{FileItem, rows_in}
+use Rattle.release_rows.specs.FileItems.{FileItem, rows_in, SourceFile}
 use Rattle.release_rows.specs.OperationLaws.{speaks_of}
 use Rattle.release_rows.specs.Operations.{spans_of}
 use Rattle.release_rows.specs.Releases.{AllAreKept, ReleaseItems, items_at, with_items}

@@ -1,5 +1,4 @@
 -- The pieces of a file: a line each, or the two lines of a range. UAX #44, section 4.2.3.
---
 -- Lines                      a piece: its first line, and the second where it has two
 -- opens_range file content   a line of UnicodeData.txt that is no trivia and begins a range
 -- one_line a                 the piece of the line a

@@ -1,5 +1,4 @@
 -- Places in their order, and the extents that a map from places to last code points holds.
---
 -- names_of bs         the names that stand between the `;` of a text; no names for no bytes
 -- names_in p          the names of a place
 -- place_cmp           by the text of the names, and then by the code point
@@ -8,8 +7,8 @@
 -- AreApart m          no two extents of the same names share a code point, and none ends before it begins
 use Rattle.std.specs.Prelude.{◌≡◌, ℕ, ◌<◌, ◌≤◌, List, [], ◌∷◌, Some}
 use Rattle.std.specs.List.{slice_split}
-use Rattle.std.specs.declared.cmp.Ordering.{Ordering}
 use Rattle.std.specs.Ordering.{ordering_then, nat_cmp}
+use Rattle.std.specs.declared.cmp.Ordering.{Ordering}
 use Rattle.std.specs.Cmp.Lexicographic.{slice_cmp}
 use Rattle.std.specs.BTreeMap.{BTreeMap, get}
 use Rattle.ucd_points.specs.Fields.{is_semicolon}

@@ -1,5 +1,4 @@
 -- How far a file is loaded.
---
 -- Progress                      the file, its text, and its items so far
 -- IsLoading file text items start count end   the items stand in the text, now and next, each with the code points of its row;
 --                               beside them are kept the first code point of the last row, the number of lines, and where they
@@ -20,8 +19,6 @@
 -- TakesRow file above row kept rule   the rule is that one; where there is none, the row's extent is kept with those above
 use Rattle.std.specs.Prelude.{◌≡◌, ℕ, ◌<◌, ◌≤◌, ◌^◌, Bool, List, [], ◌∷◌, ◌++◌, length, map, Option, Some, None, Result, Ok, Err}
 use Rattle.std.specs.List.{list_any, All}
-use Rattle.ucd_points.specs.declared.files.SourceFile.{SourceFile}
-use Rattle.ucd_facts.specs.declared.row.Row.{Row}
 use Rattle.source_rows.specs.declared.fault.RowFault.{RowFault}
 use Rattle.part_list.specs.Parts.{PartLists, now_in, next_in}
 use Rattle.part_list.specs.declared.spanned.Spanned.{Spanned}
@@ -29,7 +26,7 @@ use Rattle.release_rows.specs.Extents.{Extent}
 use Rattle.release_rows.specs.Entries.{EntersSome}
 use Rattle.release_rows.specs.Keys.{extent_in, last_start}
 use Rattle.release_rows.specs.Pieces.{Lines, piece_bytes, piece_content, piece_ending, piece_lines}
-use Rattle.release_rows.specs.FileItems.{FileItem, FileLists, bytes_of, onto_rows, rows_in, lines_of}
+use Rattle.release_rows.specs.FileItems.{FileItem, FileLists, bytes_of, onto_rows, rows_in, lines_of, SourceFile, Row}
 use Rattle.release_rows.specs.Loading.{LoadFault, content_row, file_item, fault_line, piece_fault, row_rule}
 use Rattle.release_rows.specs.StoredItems.{stored_at, IsStored}
 use Rattle.release_rows.specs.declared.entry.Entry.{Entry}

@@ -1,5 +1,4 @@
 -- What a release keeps.
---
 -- items_at files file             those of one file, which stands at its place in the list of the files
 -- with_items files file items     the same with other items in one file
 -- no_items                        no file has an item
@@ -25,12 +24,11 @@
 -- AllAreKept files                there are nine files, and of each the items are AreSound
 -- AnswersLoad                     what `load_file` answers, and what it leaves
 use Rattle.std.specs.Prelude.{◌≡◌, ℕ, ◌+◌, List, [], ◌∷◌, ◌++◌, length, map, slice_index_or, slice_set, Option, Some, None, Result, Ok, Err}
-use Rattle.ucd_points.specs.declared.files.SourceFile.{SourceFile}
 use Rattle.ucd_points.specs.SourceFiles.{file_place}
-use Rattle.ucd_facts.specs.declared.row.Row.{Row}
 use Rattle.release_rows.specs.Cuts.{AreCut, Ascends}
 use Rattle.release_rows.specs.Keys.{key_rule}
-use Rattle.release_rows.specs.FileItems.{FileItem, FileLists, rows_in}
+pub use Rattle.release_rows.specs.FileItems.{FileItem, SourceFile, Row}
+use Rattle.release_rows.specs.FileItems.{FileLists, rows_in}
 use Rattle.release_rows.specs.Loading.{LoadFault, content_row}
 use Rattle.release_rows.specs.declared.load_stop.LoadStop.{LoadStop}
 use Rattle.release_rows.specs.declared.load_stop.LoadStop.TheVariants.{Fault, Memory}

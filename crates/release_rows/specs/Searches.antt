@@ -1,5 +1,4 @@
 -- What is looked for among the entries of a file, by the code points of an entry and the content in which its item stands.
---
 -- is_row file content                    the content is no trivia
 -- has_names file names content           it is that of a row, in whose key are these names
 -- is_of_group file group content         it is that of a row of the group of this name
@@ -12,19 +11,14 @@
 --                                        the names of the key and of the group, the tag, and whether it is a missing row
 -- with_test sought test                  the same with another test
 -- entry_passes sought e                  the entry passes the test
--- row_test test file row                 the test of rows that the test of entries stands for; none passes where each entry does
 -- IsSoughtRow file row text s            what is looked for are the code points, the key and the group of this row, and a tag of theirs
-use Rattle.std.specs.Prelude.{◌≡◌, ℕ, Bool, true, false, ◌&&◌, not, List, ◌==◌, nat_le}
+use Rattle.std.specs.Prelude.{◌≡◌, ℕ, Bool, true, ◌&&◌, not, List, ◌==◌, nat_le, bytes_eq}
 use Rattle.std.specs.Ordering.{ordering_then, nat_cmp, is_eq, is_lt}
-use Rattle.std.specs.Str.{bytes_eq}
 use Rattle.ucd_points.specs.MissingLines.{is_trivia}
-use Rattle.ucd_points.specs.declared.files.SourceFile.{SourceFile}
-use Rattle.ucd_facts.specs.declared.row.Row.{Row}
 use Rattle.source_rows.specs.Keys.{row_span, key_names}
 use Rattle.source_rows.specs.KeyNames.{content_group, content_names, group_of, names_cmp}
 use Rattle.part_list.specs.declared.spanned.Spanned.{Spanned}
-use Rattle.release_rows.specs.Keys.{has_spans, is_missing_row, row_end, same_key}
-use Rattle.release_rows.specs.Operations.{follows, overlaps_another, same_group}
+use Rattle.release_rows.specs.Keys.{has_spans, is_missing_row, row_end, SourceFile, Row}
 use Rattle.release_rows.specs.StoredItems.{content_at}
 use Rattle.release_rows.specs.Tags.{HasTag, tag_fits, tag_rises, tells_group, tells_key, tells_order}
 use Rattle.release_rows.specs.declared.search.Test.{Test}
@@ -80,13 +74,6 @@ passes_by Any s e = true
 
 abbrev pub entry_passes : Sought → Spanned Stretch → Bool
 entry_passes s e = passes_by s.test s e
-
-abbrev pub row_test : Test → SourceFile → Row → Row → Bool
-row_test SameKey file row other = same_key file row other
-row_test OverlapsAnother file row other = overlaps_another file row other
-row_test Follows file row other = follows file row other
-row_test SameGroup file row other = same_group file row other
-row_test Any file row other = false
 
 pub record IsSoughtRow (file : SourceFile) (row : Row) (text : List ℕ) (s : Sought) : Type 0 where
   pub file_is : s.file ≡ file

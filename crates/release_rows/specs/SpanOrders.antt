@@ -1,11 +1,9 @@
 -- Spans by their first code points, each of which reaches as far as all before it.
---
 -- bounds_of b                  such a span, from its first code point to the last one that it reaches
 -- IsOrder bs                   both go up
 -- reach_with bs hi             how far spans reach that go on with one up to hi
 -- NoneBeginsBehind lo spans    no span begins behind lo
-use Rattle.std.specs.Prelude.{ℕ, ◌≤◌, ◌-◌, max, List, length, Option, Some, None}
-use Rattle.std.specs.List.{All, slice_get}
+use Rattle.std.specs.Prelude.{ℕ, ◌≤◌, ◌-◌, max, List, length, Option, Some, None, All, slice_get}
 use Rattle.std.specs.List.Sorted.{IsNonDecreasingBy}
 use Rattle.ucd_points.specs.Bounds.{Bounds}
 use Rattle.release_rows.specs.declared.span_order.Begun.{Begun}

@@ -1,5 +1,4 @@
 -- The pieces and items of the code, as the definitions name them.
---
 -- piece_of p                the lines of a piece: its first one, and the second where it has one
 -- content_at text s         the content that stands at a stretch of the text
 -- item_at file text s       the item that stands there: the row is read from the content
@@ -22,11 +21,7 @@
 -- ShowsValued value row     the value is the row, which is one of a file that gives values; None of other rows
 -- ShowsValue value row      the value is that of a row of a span and a value; None of other rows, missing rows among them
 -- ShowsMissing value row    the value is that of a missing row; None of other rows
-use Rattle.std.specs.Prelude.{◌≡◌, ◌≢◌, ℕ, ◌+◌, ◌<◌, ◌≤◌, ◌^◌, List, map, length, take, drop, Option, Some, None, Result, Ok, Err}
-use Rattle.std.specs.List.{All}
-use Rattle.std.specs.Option.{option_map}
-use Rattle.ucd_points.specs.declared.files.SourceFile.{SourceFile}
-use Rattle.ucd_facts.specs.declared.row.Row.{Row}
+use Rattle.std.specs.Prelude.{◌≡◌, ◌≢◌, ℕ, ◌+◌, ◌<◌, ◌≤◌, ◌^◌, List, map, length, take, drop, Option, Some, None, Result, Ok, Err, All, option_map}
 use Rattle.ucd_facts.specs.declared.row.Row.TheVariants.{Value as ValueLine, Exclusion as ExclusionLine, Missing as MissingLine}
 use Rattle.ucd_lines.specs.Items.{item_of, ending_of}
 use Rattle.source_rows.specs.Faults.{row_or_fault}
@@ -39,7 +34,7 @@ use Rattle.part_list.specs.declared.spanned.Spanned.{Spanned}
 use Rattle.source_rows.specs.Keys.{row_span}
 use Rattle.release_rows.specs.Briefs.{brief_of, no_brief}
 use Rattle.release_rows.specs.Pieces.{Lines}
-use Rattle.release_rows.specs.FileItems.{FileItem, bytes_of}
+use Rattle.release_rows.specs.FileItems.{FileItem, bytes_of, SourceFile, Row}
 use Rattle.release_rows.specs.Loading.{content_row, row_read}
 use Rattle.release_rows.specs.Tags.{content_tag}
 use Rattle.release_rows.specs.declared.brief.Brief.{Brief}

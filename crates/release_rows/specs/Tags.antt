@@ -1,5 +1,4 @@
 -- Tags of rows: numbers that tell rows of different keys or groups apart.
---
 -- digit b                  what a byte is worth: 1 to 75 from `0` to `z`, 0 below them and 76 above
 -- is_inner b               the byte is from `0` to `z`
 -- first_digit bs           what the first byte is worth; 0 where there is none

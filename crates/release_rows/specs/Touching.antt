@@ -1,13 +1,11 @@
 -- The rows that speak of code points in spans.
---
 -- meets spans row     the row speaks of a code point in some of the spans; never so of a row of names
 -- RowsMeet            each row that speaks of a code point in one of the spans meets them
 use Rattle.std.specs.Prelude.{◌≡◌, ℕ, Bool, true, List}
 use Rattle.std.specs.List.{list_any}
 use Rattle.ucd_points.specs.Bounds.{Bounds}
 use Rattle.ucd_facts.specs.Facts.{within}
-use Rattle.ucd_facts.specs.declared.row.Row.{Row}
-use Rattle.release_rows.specs.Keys.{spans_meet}
+use Rattle.release_rows.specs.Keys.{spans_meet, Row}
 use Rattle.release_rows.specs.OperationLaws.{speaks_of}
 use Rattle.release_rows.specs.Operations.{row_spans}
 

@@ -1,5 +1,4 @@
 -- Proof that the rows of a code point are among those that meet its spans.
---
 -- rows_meet   the law of the same name
 use Rattle.std.proofs.Common.{◌≡◌, ℕ, true, List, [], ◌∷◌, inl, inr, arith}
 use Rattle.std.specs.List.{list_any}

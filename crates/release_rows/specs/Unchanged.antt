@@ -1,5 +1,4 @@
 -- What an operation leaves as it was: everything but its row keeps its bytes and its order.
---
 -- has_row op row          the row has the operation's key: that of the row which is added or changed, or the one that is withdrawn
 -- others op items         the items but for those with such a row, in order; comments and empty lines are among them
 -- in_front op next        how many items stand in front of the row that was added; none if no row is added
@@ -15,12 +14,9 @@
 use Rattle.std.specs.Prelude.{◌≡◌, ◌≢◌, ℕ, Bool, not, List, ◌++◌, map, take, drop, filter, Ok}
 use Rattle.std.specs.List.{All, position_or_len}
 use Rattle.ucd_points.specs.Lines.{LineEnding, unended}
-use Rattle.ucd_points.specs.declared.files.SourceFile.{SourceFile}
-use Rattle.ucd_facts.specs.declared.row.Row.{Row}
-use Rattle.release_rows.specs.FileItems.{FileItem}
 use Rattle.release_rows.specs.Keys.{same_key}
 use Rattle.release_rows.specs.Operations.{ended, has_key, op_file, op_or_rule, row_passes}
-use Rattle.release_rows.specs.Releases.{items_at}
+use Rattle.release_rows.specs.Releases.{items_at, FileItem, SourceFile, Row}
 use Rattle.release_rows.specs.declared.operation.Op.{Op}
 use Rattle.release_rows.specs.declared.operation.Op.TheVariants.{Add, Change, Withdraw}
 

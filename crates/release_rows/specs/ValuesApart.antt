@@ -1,5 +1,4 @@
 -- Rows that share no code point.
---
 -- AreApart test rows     no two of the rows pass the test
 -- AreValuesApart rows    no code point is covered by two rows with a value; two missing rows may cover it
 -- ValuesAreApart         the rows that are kept of a file that has missing rows are so
@@ -7,9 +6,7 @@ use Rattle.std.specs.Prelude.{◌≡◌, ℕ, Bool, true, false, List, [], ◌�
 use Rattle.std.specs.List.{list_any}
 use Rattle.ucd_facts.specs.Values.{gives_some}
 use Rattle.ucd_points.specs.MissingLines.{takes_missing}
-use Rattle.ucd_points.specs.declared.files.SourceFile.{SourceFile}
-use Rattle.ucd_facts.specs.declared.row.Row.{Row}
-use Rattle.release_rows.specs.FileItems.{FileItem, rows_in}
+use Rattle.release_rows.specs.FileItems.{FileItem, rows_in, SourceFile, Row}
 use Rattle.release_rows.specs.Releases.{AreKept}
 
 abbrev pub AreApart : (Row → Bool) → List Row → Type 0

@@ -1,22 +1,20 @@
 -- Proof that rows that are kept are apart.
---
 -- values_apart           the law ValuesAreApart
 -- values_apart_within    where rows are apart, those of them that pass a test are
-use Rattle.std.proofs.Common.{◌≡◌, ℕ, Bool, true, false, cond, List, [], ◌∷◌, ◌++◌, filter, Option, Some, None, refl, sym, ap, subst, ◌∙◌, arith}
-use Rattle.std.specs.Prelude.{nat_le}
+-- onto_append            a row that may be there, put before rows and others
+-- rows_append            the rows of items and one more
+-- no_overlap             where neither K1 nor K4 is broken, no other row overlaps
+use Rattle.std.proofs.Common.{◌≡◌, ℕ, Bool, true, false, cond, List, [], ◌∷◌, ◌++◌, filter, Option, Some, None, refl, sym, ap, subst, ◌∙◌, arith, nat_le, append-nil}
 use Rattle.std.specs.List.{list_any}
 use Rattle.std.proofs.lemmas.Bool.{true≢false, and_parts, and_from, or_parts, or_from}
 use Rattle.std.proofs.lemmas.Bool.Decides.{nat_tests}
-use Rattle.std.proofs.lemmas.List.{append-nil}
 use Rattle.std.proofs.lemmas.List.Folds.{list_any-append}
 use Rattle.ucd_points.specs.MissingLines.{takes_missing}
-use Rattle.ucd_points.specs.declared.files.SourceFile.{SourceFile}
 use Rattle.ucd_points.specs.declared.files.SourceFile.TheVariants.{UnicodeData, PropList, Scripts, WordBreakProperty, CompositionExclusions, CaseFolding, SpecialCasing, PropertyAliases, PropertyValueAliases}
 use Rattle.ucd_facts.specs.Values.{gives_some}
-use Rattle.ucd_facts.specs.declared.row.Row.{Row}
 use Rattle.ucd_facts.specs.declared.row.ValueRow.{ValueRow}
 use Rattle.ucd_facts.specs.declared.row.Row.TheVariants.{Unit as DataLine, Value as ValueLine, Exclusion as ExclusionLine, Fold as FoldLine, Casing as CasingLine, Alias as AliasLine, Missing as MissingLine}
-use Rattle.release_rows.specs.FileItems.{FileItem, rows_in, onto_rows}
+use Rattle.release_rows.specs.FileItems.{FileItem, rows_in, onto_rows, SourceFile, Row}
 use Rattle.release_rows.specs.Keys.{overlaps, same_key, spans_meet}
 use Rattle.release_rows.specs.Releases.{AreKept, AreKeptBelow, IsKept}
 use Rattle.release_rows.specs.ValuesApart.{AreApart, AreValuesApart, ValuesAreApart}
@@ -24,15 +22,15 @@ use Rattle.release_rows.specs.declared.conflict.Conflict.TheVariants.{K1, K4}
 
 -- ---- rows that pass a test, where two that pass it overlap
 
-rows_append : (above : List FileItem) (item : FileItem) → rows_in (above ++ item ∷ []) ≡ rows_in above ++ onto_rows item.row []
-rows_append [] item = refl
-rows_append (a ∷ above) item = by a.row (rows_append above item)
-  where
-    by : (row : Option Row) → rows_in (above ++ item ∷ []) ≡ rows_in above ++ onto_rows item.row [] → onto_rows row (rows_in (above ++ item ∷ [])) ≡ onto_rows row (rows_in above) ++ onto_rows item.row []
-    by None e = e
-    by (Some r) e = ap (λ rows. r ∷ rows) e
+pub onto_append : (o : Option Row) (xs ys : List Row) → onto_rows o (xs ++ ys) ≡ onto_rows o xs ++ ys
+onto_append None xs ys = refl
+onto_append (Some x) xs ys = refl
 
-no_overlap : (k o : Bool) → cond k (Some K1) (cond o (Some K4) None) ≡ None → o ≡ false
+pub rows_append : (above : List FileItem) (item : FileItem) → rows_in (above ++ item ∷ []) ≡ rows_in above ++ onto_rows item.row []
+rows_append [] item = refl
+rows_append (a ∷ above) item = ap (onto_rows a.row) (rows_append above item) ∙ onto_append a.row (rows_in above) (onto_rows item.row [])
+
+pub no_overlap : (k o : Bool) → cond k (Some K1) (cond o (Some K4) None) ≡ None → o ≡ false
 no_overlap true o h = absurd cc
 no_overlap false true h = absurd cc
 no_overlap false false h = refl

@@ -1,9 +1,7 @@
 -- The rows of a file, one after the other.
---
 -- IsWalk file text items line   the items that are left stand in the text, the first on this line, and with two lines each their line
 --                               numbers stay below 2^64
-use Rattle.std.specs.Prelude.{ℕ, ◌+◌, ◌*◌, ◌<◌, ◌^◌, List, length}
-use Rattle.std.specs.List.{All}
+use Rattle.std.specs.Prelude.{ℕ, ◌+◌, ◌*◌, ◌<◌, ◌^◌, List, length, All}
 use Rattle.ucd_points.specs.declared.files.SourceFile.{SourceFile}
 use Rattle.part_list.specs.declared.spanned.Spanned.{Spanned}
 use Rattle.release_rows.specs.StoredItems.{IsStored}

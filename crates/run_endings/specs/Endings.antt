@@ -1,5 +1,4 @@
 -- How a run of a program is to end, by its words and by what the shelf holds.
---
 -- Contents                what a shelf holds at each path: the bytes of a file, or None
 -- NewFile                 a path, and the bytes that are written there
 -- Ending                  how a run ends that is not refused: the files that are written, in order, each path with its bytes; the
@@ -25,8 +24,7 @@
 -- Sees tells holds paths P   P of what was seen at the paths
 -- EndsAs p words seen P   by what was seen the run is not refused, and P of its ending
 -- IsFine p words seen     by what was seen the run is not refused
-use Rattle.std.specs.Prelude.{◌≡◌, ℕ, Bool, IsTrue, List, [], ◌∷◌, length, map, Option, Some, None, if◌then◌else◌}
-use Rattle.std.specs.Str.{bytes_eq}
+use Rattle.std.specs.Prelude.{◌≡◌, ℕ, Bool, IsTrue, List, [], ◌∷◌, length, map, Option, Some, None, if◌then◌else◌, bytes_eq}
 
 abbrev pub Contents : Type 0
 Contents = List ℕ → Option (List ℕ)

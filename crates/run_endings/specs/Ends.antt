@@ -1,7 +1,6 @@
 -- How a run ends by what was planned.
 --
 -- A plan is None where the words have no listed form; else it is what is left to be done, or why the run stops before it writes.
---
 -- Untouched shelf                 nothing of the shelf changed
 -- IsPlanned p job answer shelf    what was seen at the paths that the job needs gives the plan, or the line that refuses; a read that
 --                                 failed says nothing; no claim if memory ran out

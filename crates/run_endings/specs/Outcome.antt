@@ -1,5 +1,4 @@
 -- What a run leaves, by its status.
---
 -- ShelfSeen, SinkSeen               what is seen of the shelf and the sink before and after the run
 -- Unchanged shelf                   every path holds what it held; nothing is said of a shelf that does not tell what it holds
 -- LastFailedStays shelf             the path of the last failed read is as it was; nothing is said of a shelf that does not tell

@@ -1,5 +1,4 @@
 -- Where files lie below a folder.
---
 -- path_in folder path      the folder, `/`, and the path
 use Rattle.std.specs.Prelude.{ℕ, List, ◌++◌, codes}
 

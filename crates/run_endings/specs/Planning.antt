@@ -1,5 +1,4 @@
 -- All that a run does before it writes.
---
 -- OnRefused result P              P of the line, where what was read was refused
 -- NamesUnread paths tells failed line   the line names one of the paths, and the last failed one where that is told
 -- OnlyRead shelf                  every path holds what it held, where that is told; the count of failed reads did not fall, and

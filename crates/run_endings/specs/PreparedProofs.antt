@@ -1,6 +1,5 @@
 -- A job that was prepared, from what is said of a plan, of a refusal, and of a read that failed.
-use Rattle.std.proofs.Common.{◌≡◌, Result, Ok, Err}
-use Rattle.std.specs.Prelude.{IfOk}
+use Rattle.std.proofs.Common.{◌≡◌, Result, Ok, Err, IfOk}
 use Rattle.run_endings.specs.Endings.{Program, Refuses, Sees}
 use Rattle.run_endings.specs.Ends.{Prepares}
 use Rattle.run_endings.specs.Outcome.{ShelfSeen}

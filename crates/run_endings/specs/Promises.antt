@@ -1,9 +1,7 @@
 -- What every run keeps: one line for each promise, whatever the words, the shelf and the sink.
---
 -- shelf_seen, sink_seen            what is seen of a shelf and of a sink before and after the run
 -- NoFault shelf sink               no read, no write and no put failed
 -- Promises p words shelf sink status what a run keeps that ends with this status:
---
 -- headline            where the words have a form, what is held is not refused, no outside call fails and memory suffices, the
 --                     status is that of the ending, Done where it says so, and the shelf is the old one with just the files of the
 --                     ending replaced, each exactly what the program's definitions give. Memory suffices where the status is not 6

@@ -1,6 +1,5 @@
 -- Outputs that are put one after the other.
-use Rattle.std.proofs.Common.{List, ◌++◌, ap, ◌∙◌}
-use Rattle.std.proofs.lemmas.List.{append_assoc}
+use Rattle.std.proofs.Common.{List, ◌++◌, ap, ◌∙◌, append_assoc}
 use Rattle.run_endings.specs.Planning.{Puts}
 use Rattle.run_endings.specs.Endings.{NewFile}
 use Rattle.run_endings.specs.Writing.{files_of}

@@ -1,12 +1,10 @@
 -- Reading the files that a run needs.
---
 -- cut held               the bytes that are held, up to one more than a file may have
 -- IsRead tells holds paths read   what was read is what was seen at the paths, each of them cut
 -- text_at texts at       the text at a place, no bytes past the last
 -- OnFailedAt result P    P of the place, where the path at that place could not be read
 -- OnOneFailed result P   P, where the path could not be read
-use Rattle.std.specs.Prelude.{◌≡◌, ℕ, ◌+◌, Bool, List, [], take, map, Option, Result, Ok, Err, ⊤, slice_index_or}
-use Rattle.std.specs.Option.{option_map}
+use Rattle.std.specs.Prelude.{◌≡◌, ℕ, ◌+◌, Bool, List, [], take, map, Option, Result, Ok, Err, ⊤, slice_index_or, option_map}
 use Rattle.ucd_points.specs.Limits.{file_limit}
 use Rattle.shelf_io.specs.declared.shelf.ReadStop.{ReadStop}
 use Rattle.shelf_io.specs.declared.shelf.ReadStop.TheVariants as one

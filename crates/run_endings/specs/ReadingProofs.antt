@@ -1,8 +1,6 @@
 -- Of a file no more is read than decides whether it is too long, and what it holds where it is not.
-use Rattle.std.proofs.Common.{◌≡◌, ℕ, zero, suc, ◌+◌, true, List, [], ◌∷◌, length, take, map, nat_lt, if◌then◌else◌, None, refl, arith, inl, inr}
-use Rattle.std.specs.Prelude.{slice_index_or}
+use Rattle.std.proofs.Common.{◌≡◌, ℕ, zero, suc, ◌+◌, true, List, [], ◌∷◌, length, take, map, nat_lt, if◌then◌else◌, None, refl, arith, inl, inr, slice_index_or, length-take, take_all}
 use Rattle.std.proofs.lemmas.Bool.{cases_lt, lt-ltb}
-use Rattle.std.proofs.lemmas.List.{length-take, take_all}
 use Rattle.ucd_points.specs.Limits.{file_limit}
 use Rattle.run_endings.specs.Endings.{Seen}
 use Rattle.run_endings.specs.Reading.{cut}

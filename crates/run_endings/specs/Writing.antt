@@ -1,5 +1,4 @@
 -- Writing the files that a run makes.
---
 -- file_of output                         the file of an output, without its line
 -- files_of outputs                       the files of the outputs, in order
 -- StopsAt place output line outputs tells old new   the output is the one at this place, and the line is its line; where contents

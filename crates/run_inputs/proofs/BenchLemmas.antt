@@ -1,9 +1,7 @@
 -- The verdict on a release, from what opening its bench answers.
 use Rattle.std.proofs.Common.{◌≡◌, ℕ, List, Option, None, Result, Ok, Err, sym, ap, ◌∙◌}
 use Rattle.ucd_model.specs.Validity.{first_broken}
-use Rattle.ucd_points.specs.declared.files.SourceFile.{SourceFile}
-use Rattle.release_rows.specs.FileItems.{FileItem}
-use Rattle.release_rows.specs.Releases.{ReleaseItems}
+use Rattle.release_rows.specs.Releases.{ReleaseItems, FileItem, SourceFile}
 use Rattle.edit_session.specs.Benches.{NamesBroken}
 use Rattle.edit_session.specs.Groups.{files_facts}
 use Rattle.edit_session.specs.declared.open_stop.OpenStop.{OpenStop}

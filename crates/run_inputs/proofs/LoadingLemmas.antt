@@ -3,10 +3,8 @@ use Rattle.std.proofs.Common.{◌≡◌, ◌≢◌, ℕ, ◌+◌, ◌<◌, ◌�
 use Rattle.std.proofs.lemmas.Bool.{cases_lt}
 use Rattle.std.proofs.lemmas.List.{drop_more}
 use Rattle.ucd_points.specs.SourceFiles.{source_files, file_place, file_at, file_place_small, file_at-place, file_place-at}
-use Rattle.ucd_points.specs.declared.files.SourceFile.{SourceFile}
 use Rattle.ucd_points.specs.declared.files.SourceFile.TheVariants.{UnicodeData}
-use Rattle.release_rows.specs.FileItems.{FileItem}
-use Rattle.release_rows.specs.Releases.{ReleaseItems, items_at, items_now}
+use Rattle.release_rows.specs.Releases.{ReleaseItems, items_at, items_now, FileItem, SourceFile}
 use Rattle.edit_session.specs.Benches.{HasNothingPrepared}
 use Rattle.run_endings.specs.Endings.{Seen}
 use Rattle.run_inputs.specs.Held.{StayOutside, held_at, source_held}

@@ -2,8 +2,7 @@
 use Rattle.std.proofs.Common.{◌≡◌, ℕ, ◌+◌, List, map, Option, Some, None, Result, Ok, Err, refl, ap, ◌∙◌}
 use mathlib.Core.Path.{fun_ext}
 use Rattle.ucd_points.specs.SourceFiles.{file_place, source_files}
-use Rattle.ucd_points.specs.declared.files.SourceFile.{SourceFile}
-use Rattle.release_rows.specs.FileItems.{FileItem}
+use Rattle.release_rows.specs.FileItems.{FileItem, SourceFile}
 use Rattle.release_rows.specs.Loading.{file_or_fault}
 use Rattle.release_rows.specs.declared.load_stop.LoadRule.TheVariants as load
 use Rattle.ucd_model.specs.Validity.{first_broken}

@@ -1,13 +1,11 @@
 -- The lines of a log that tell of groups.
---
 -- log_line line said        a line of the log: the number of the command's line, a space, what is said of it, and LF
 -- accepted_line line count  of a group that was accepted: how many code points have another record
 -- key_rule_code rule        the code of a rule that an operation breaks: K1, K2 or K4
 -- refusal_text why          of a group that was refused: the rule that an operation breaks, and the number of that operation,
 --                           counted from 1; or the rule of a valid release, and the code point that breaks it
 -- refused_line line why     the line that says it
-use Rattle.std.specs.Prelude.{ℕ, List, ◌++◌, codes}
-use Rattle.std.specs.Fmt.{decimal}
+use Rattle.std.specs.Prelude.{ℕ, List, ◌++◌, codes, decimal}
 use Rattle.ucd_model.specs.DerivedText.{line_end}
 use Rattle.ucd_points.specs.HexText.{hex_text}
 use Rattle.release_rows.specs.declared.key_rule.KeyRule.{KeyRule}

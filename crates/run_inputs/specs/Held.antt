@@ -1,5 +1,4 @@
 -- What is held at the paths that were read.
---
 -- held_at held at              what is held at a place; None where nothing is, and past the last
 -- source_held held first file  what is held of a source file of the folder whose first file is at this place
 -- StayOutside first old new    what is held at each place stays, but for the files of that folder

@@ -1,5 +1,4 @@
 -- Judging what was read.
---
 -- refusal_of stop                 the refusal that the stop tells; None if memory ran out
 -- JudgedAs view result expected   a result, seen by view, is what was expected; no claim if memory ran out
 -- ToldAs view result expected     the same of a result whose refusal is a line; no read failed
@@ -14,9 +13,7 @@
 use Rattle.std.specs.Prelude.{◌≡◌, ◌≢◌, ℕ, List, length, Result, Ok, Err, ⊤, Option, Some, None}
 use Rattle.std.specs.Borrow.{Bor}
 use Rattle.ucd_points.specs.Answers.{AnswersBy}
-use Rattle.ucd_points.specs.declared.files.SourceFile.{SourceFile}
-use Rattle.release_rows.specs.FileItems.{FileItem}
-use Rattle.release_rows.specs.Releases.{ReleaseItems, items_now}
+use Rattle.release_rows.specs.Releases.{ReleaseItems, items_now, FileItem, SourceFile}
 use Rattle.release_rows.specs.declared.load_stop.LoadStop.{LoadStop}
 use Rattle.release_rows.specs.declared.load_stop.LoadStop.TheVariants.{Fault, Memory as LoadMemory}
 use Rattle.edit_session.specs.Benches.{HasNothingPrepared}

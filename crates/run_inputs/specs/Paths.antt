@@ -1,5 +1,4 @@
 -- Where the files of a release lie below a folder.
---
 -- source_in folder file    the path of a source file of a folder
 -- sources_in folder        the paths of the source files of a folder, in order
 -- derived_in folder file   the path of a derived file below a folder

@@ -1,13 +1,11 @@
 -- The lines that refuse what was read, each ended by LF, and the codes of the rules.
---
 -- refused path line rule   a file is refused: the number of the line, 0 for the file as a whole, and the rule's code
 -- refused_point folder b   a code point of the release in a folder breaks a rule: the point, and the rule's code
 -- bad_code rule            the code of a rule of a valid release: V1 to V5
 -- file_rule_code rule      the code of a rule that a file as a whole breaks: G01 where it is not there, G02 where it is too long
 -- load_rule_code rule      the code of a rule that a source file breaks
 -- row_rule_code fault      the code of a rule that a line breaks by itself: G03 to G11
-use Rattle.std.specs.Prelude.{ℕ, List, ◌++◌, codes}
-use Rattle.std.specs.Fmt.{decimal}
+use Rattle.std.specs.Prelude.{ℕ, List, ◌++◌, codes, decimal}
 use Rattle.ucd_model.specs.DerivedText.{line_end}
 use Rattle.ucd_points.specs.HexText.{hex_text}
 use Rattle.ucd_facts.specs.declared.form.Bad.{Bad}

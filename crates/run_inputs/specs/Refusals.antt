@@ -1,5 +1,4 @@
 -- The lines that refuse what was read.
---
 -- folder_line folder why        the line of a refusal of a folder: the path of the file, the number of the line, 0 for the file as a
 --                               whole, and the rule's code; or the folder, the code point, and the rule's code. An absent file is G01
 -- script_rule_code rule         the code of a rule that a script breaks; with E6 the rule that the row or the key breaks
@@ -9,8 +8,7 @@
 -- folder_verdict folder held    the items of the source files of this folder, of which this is held; or the line that refuses it
 -- script_told path held         the commands of what is held of the script at this path; or the line that refuses it
 use Rattle.std.specs.Prelude.{ℕ, List, ◌++◌, Option, Result, Ok, Err, codes}
-use Rattle.ucd_points.specs.declared.files.SourceFile.{SourceFile}
-use Rattle.release_rows.specs.FileItems.{FileItem}
+use Rattle.release_rows.specs.FileItems.{FileItem, SourceFile}
 use Rattle.script_lines.specs.declared.command.Command.{Command}
 use Rattle.script_lines.specs.declared.stop.ScriptRule.{ScriptRule}
 use Rattle.script_lines.specs.declared.stop.ScriptRule.TheVariants.{E1, E2, E3, E4, E5, E6}

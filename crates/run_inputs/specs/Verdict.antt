@@ -1,5 +1,4 @@
 -- What was read gives, or why it is refused.
---
 -- and_then result more        what more makes of the value; a refusal stays
 -- file_verdict file held      the items of what is held of a source file; an absent file is refused, and one with a fault
 -- all_items verdict_on files  the items of each file, in order, or the refusal of the first file that has one
@@ -15,11 +14,9 @@ use Rattle.std.specs.Prelude.{ℕ, List, [], ◌∷◌, length, Option, Some, No
 use Rattle.ucd_points.specs.Limits.{file_limit}
 use Rattle.ucd_points.specs.SourceFiles.{source_files}
 use Rattle.ucd_model.specs.Validity.{first_broken}
-use Rattle.ucd_points.specs.declared.files.SourceFile.{SourceFile}
 use Rattle.ucd_facts.specs.declared.form.Broken.{Broken}
-use Rattle.release_rows.specs.FileItems.{FileItem}
 use Rattle.release_rows.specs.Loading.{LoadFault, load_or_fault}
-use Rattle.release_rows.specs.Releases.{ReleaseItems}
+use Rattle.release_rows.specs.Releases.{ReleaseItems, FileItem, SourceFile}
 use Rattle.script_lines.specs.Scripts.{ScriptFault, script_or_fault}
 use Rattle.script_lines.specs.declared.command.Command.{Command}
 use Rattle.edit_session.specs.Groups.{files_facts}

@@ -1,14 +1,11 @@
 -- Each step keeps that the groups so far can be carried out.
-use Rattle.std.proofs.Common.{◌≡◌, ℕ, ◌+◌, ◌≤◌, Bool, true, false, List, [], ◌∷◌, ◌++◌, length, Option, Some, None, Result, Ok, Err, refl, arith}
+use Rattle.std.proofs.Common.{◌≡◌, ℕ, ◌+◌, ◌≤◌, Bool, true, false, List, [], ◌∷◌, ◌++◌, length, Option, Some, None, Result, Ok, Err, refl, arith, All}
 use Rattle.std.specs.Prelude.{IfOk, ⊤}
-use Rattle.std.specs.List.{All}
 use Rattle.std.proofs.lemmas.List.Elements.{All-nil, All-push}
 use Rattle.std.proofs.lemmas.Bool.{eqb-false}
 use Rattle.std.proofs.lemmas.List.{length_push}
 use Rattle.ucd_points.specs.Lines.{items_of}
-use Rattle.ucd_points.specs.declared.files.SourceFile.{SourceFile}
-use Rattle.ucd_facts.specs.declared.row.Row.{Row}
-use Rattle.source_rows.specs.Faults.{row_or_fault}
+use Rattle.source_rows.specs.Faults.{row_or_fault, SourceFile, Row}
 use Rattle.source_rows.specs.KeyGrammar.{key_or_fault}
 use Rattle.source_rows.specs.Laws.{RowsAreOk, RowsAreRead}
 use Rattle.source_rows.specs.declared.fault.RowFault.{RowFault}

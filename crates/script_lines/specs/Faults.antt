@@ -1,5 +1,4 @@
 -- The first fault of a script.
---
 -- fault_of p rule         the rule, with the number of the piece
 -- is_group_line p         the line is `begin` or `end`
 -- is_operation p          the line puts a row or takes one out

@@ -1,5 +1,4 @@
 -- The commands that a script holds.
---
 -- NumberedPiece              a piece, and the number of its first line
 -- numbered n pieces          the pieces with their numbers; n is that of the first one
 -- numbered_pieces n bytes    the pieces of a script; n is the number of its first line

@@ -1,5 +1,4 @@
 -- What a line of a script says by itself.
---
 -- Said                         nothing, of a blank line and a comment; `begin`; `end`; the text of a question; a row that is put
 --                              into a file; a key of a row that is taken out of one; or no command
 -- is_space b                   the byte is a space
@@ -16,12 +15,10 @@
 -- said content                 what a line of this content says: `begin` and `end` stand alone, the others have a word and a space
 -- last_text content            LINE, of a line `last LINE`; None of other lines
 -- said_by line                 what a line of the code says
-use Rattle.std.specs.Prelude.{ℕ, Bool, List, length, take, drop, find, Option, Some, None, ◌==◌, nat_lt, codes, if◌then◌else◌}
+use Rattle.std.specs.Prelude.{ℕ, Bool, List, length, take, drop, find, Option, Some, None, ◌==◌, nat_lt, codes, if◌then◌else◌, bytes_eq}
 use Rattle.std.specs.List.{position_or_len, before_first, after_first}
-use Rattle.std.specs.Str.{bytes_eq}
 use Rattle.ucd_points.specs.MissingLines.{is_trivia}
-use Rattle.ucd_points.specs.SourceFiles.{source_path}
-use Rattle.ucd_points.specs.SourceFiles.{source_files}
+use Rattle.ucd_points.specs.SourceFiles.{source_path, source_files}
 use Rattle.ucd_points.specs.declared.files.SourceFile.{SourceFile}
 use Rattle.ucd_points.specs.declared.files.SourceFile.TheVariants.{UnicodeData}
 use Rattle.script_lines.specs.declared.line.Line.{Line}

@@ -1,5 +1,4 @@
 -- The pieces of the code, as the definitions name them.
---
 -- piece_of p    the lines of a piece: its first one, and the next where it has one
 use Rattle.std.specs.Option.{option_map}
 use Rattle.script_lines.specs.Scripts.{ScriptPiece}

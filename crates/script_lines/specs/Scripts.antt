@@ -1,5 +1,4 @@
 -- The commands of a script, or the first fault.
---
 -- ScriptFault                  the number of a line, and the rule that is broken there
 -- ScriptPiece                  a line, and the one behind it where the first begins a range
 -- opens_range said             a row of UnicodeData.txt is put, by the first line of a range
@@ -35,10 +34,8 @@
 use Rattle.std.specs.Prelude.{◌≡◌, ℕ, ◌+◌, Bool, false, ◌&&◌, List, [], ◌∷◌, ◌++◌, length, Option, Some, None, is_some, Result, Ok, Err, ◌==◌, if◌then◌else◌}
 use Rattle.ucd_points.specs.Answers.{AnswersBy}
 use Rattle.ucd_points.specs.Lines.{LineItem, items_of}
-use Rattle.ucd_points.specs.declared.files.SourceFile.{SourceFile}
 use Rattle.ucd_points.specs.declared.files.SourceFile.TheVariants.{UnicodeData}
-use Rattle.ucd_facts.specs.declared.row.Row.{Row as RowValue}
-use Rattle.source_rows.specs.Faults.{row_or_fault}
+use Rattle.source_rows.specs.Faults.{row_or_fault, SourceFile, Row as RowValue}
 use Rattle.source_rows.specs.KeyGrammar.{key_or_fault}
 use Rattle.source_rows.specs.Lines.{is_first_line}
 use Rattle.source_rows.specs.declared.fault.RowFault.{RowFault}

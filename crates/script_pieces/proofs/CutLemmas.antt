@@ -1,19 +1,12 @@
 -- Cutting a text line by line: what stands before the first mark, and what is left behind it.
---
 -- before text rest        what of the text stands before its rest
-use Rattle.std.proofs.Common.{◌≡◌, ◌≢◌, ◌≤◌, ◌<◌, ℕ, ◌+◌, ◌-◌, Bool, true, false, List, [], ◌∷◌, ◌++◌, length, map, take, drop, Option, Some, refl, sym, ap, ◌∙◌, arith, append_assoc, length-append, length-drop, append-nil}
-use Rattle.std.proofs.lemmas.List.{take_all}
-use Rattle.std.specs.Prelude.{if◌then◌else◌}
+use Rattle.std.proofs.Common.{◌≡◌, ◌≢◌, ◌≤◌, ◌<◌, ℕ, ◌+◌, ◌-◌, Bool, true, false, List, [], ◌∷◌, ◌++◌, length, take, drop, refl, sym, ap, ◌∙◌, arith, append_assoc, length-append, length-drop, take_all, if◌then◌else◌}
 use Rattle.std.proofs.Math.Seq.{take-append_seam, drop-append_seam}
 use Rattle.ucd_points.specs.Lines.{LineEnding, LineItem, cr_lf, ending_bytes, item_bytes, items_of, joined, lf, unended}
-use Rattle.ucd_lines.specs.Laws.{AreLines, EndingsAreToldApart, IsLine, LinesAreUnique, NoLineFeedInside, OnlyTheLastIsUnended}
-use Rattle.script_pieces.specs.Pieces.{Cut, Mark, cut, is_mark, marked_piece, pieces_from}
+use Rattle.ucd_lines.specs.Laws.{EndingsAreToldApart, IsLine, LinesAreUnique, NoLineFeedInside, OnlyTheLastIsUnended, lines_behind}
+use Rattle.script_pieces.specs.Pieces.{Cut, cut, is_mark}
 
 -- ---- the text behind a line
-
-pub lines_behind : (bytes : List ℕ) (front lines : List LineItem) → NoLineFeedInside → OnlyTheLastIsUnended → EndingsAreToldApart → items_of bytes ≡ front ++ lines → AreLines lines
-lines_behind bytes front [] feeds ends told e = tt
-lines_behind bytes front (line ∷ lines) feeds ends told e = (record { no_line_feed = feeds bytes front line lines e; last = ends bytes front line lines e; no_return = told bytes front line lines e }, lines_behind bytes (front ++ line ∷ []) lines feeds ends told (e ∙ sym (append_assoc front (line ∷ []) lines)))
 
 -- a line of a file has at least one byte
 pub some_bytes : (line : LineItem) (rest : List LineItem) → IsLine line rest → 1 ≤ length (item_bytes line)

@@ -1,14 +1,12 @@
 -- The pieces have all lines, in order, each lies in its file, and they are few.
-use Rattle.std.proofs.Common.{◌≡◌, ◌≤◌, ℕ, ◌+◌, Bool, true, false, List, [], ◌∷◌, length, map, refl, ap, ◌∙◌, arith}
-use Rattle.std.specs.List.{All, flat_map}
-use Rattle.std.specs.Prelude.{if◌then◌else◌}
+use Rattle.std.proofs.Common.{◌≡◌, ◌≤◌, ℕ, ◌+◌, Bool, true, false, List, [], ◌∷◌, length, map, refl, ap, ◌∙◌, arith, All, flat_map, if◌then◌else◌}
 use Rattle.std.proofs.lemmas.Grind.{flat_map-append}
 use Rattle.std.proofs.lemmas.List.{length-append, length-map}
 use Rattle.std.proofs.lemmas.List.Elements.{All-cons, All-nil}
 use Rattle.ucd_points.specs.Lines.{LineItem, item_bytes, items_of, joined}
-use Rattle.ucd_lines.specs.Laws.{AreLines, EndingsAreToldApart, ItemsJoin, NoLineFeedInside, OnlyTheLastIsUnended}
+use Rattle.ucd_lines.specs.Laws.{AreLines, EndingsAreToldApart, ItemsJoin, NoLineFeedInside, OnlyTheLastIsUnended, lines_behind}
 use Rattle.script_pieces.specs.Pieces.{Cut, FitsBelow, Marked, cut, cut_lines, is_mark, marked_piece, PiecesAreFew, PiecesAreWhole, PiecesFit}
-use Rattle.script_pieces.proofs.CutLemmas.{lines_behind, some_bytes}
+use Rattle.script_pieces.proofs.CutLemmas.{some_bytes}
 
 put_before : (n : ℕ) (line : LineItem) (behind : Cut) (t : Bool)
     → cut_lines (if t then record { front = []; marked = record { number = n; mark = line; lines = behind.front } ∷ behind.marked } else record { front = line ∷ behind.front; marked = behind.marked }) ≡ line ∷ cut_lines behind

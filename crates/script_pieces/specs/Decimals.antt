@@ -1,11 +1,8 @@
 -- The numbers of marks.
---
 -- is_plain word           no `+` stands first, and a first 0 stands alone
 -- number_of word          the number below 2^32 that the word writes in decimal digits with no zero to spare, which is the value of its
 --                         digits; None where it writes none
-use Rattle.std.specs.Prelude.{ℕ, ◌^◌, Bool, true, ◌&&◌, ◌==◌, not, nat_lt, List, [], ◌∷◌, Option, Some, None, if◌then◌else◌}
-use Rattle.std.specs.Fmt.{decimal}
-use Rattle.std.specs.Str.{bytes_eq}
+use Rattle.std.specs.Prelude.{ℕ, ◌^◌, Bool, true, ◌&&◌, ◌==◌, not, nat_lt, List, [], ◌∷◌, Option, Some, None, if◌then◌else◌, decimal, bytes_eq}
 use Rattle.std.specs.Str.Parse.{digits_value}
 
 abbrev pub is_plain : List ℕ → Bool

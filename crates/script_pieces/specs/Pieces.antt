@@ -1,5 +1,4 @@
 -- A file of scripts between marks. A mark is a line that begins with `@`.
---
 -- is_mark line            the line begins with `@`; an empty one does not
 -- Marked                  a mark, the number of its line, and the lines behind it up to the next mark
 -- Cut                     the lines before the first mark, and the marks with the lines behind them
@@ -16,8 +15,7 @@
 -- FitsBelow n piece       the number of its first line and its bytes are together at most n
 -- PiecesFit               so it is of each piece of a file, with one more than the bytes of the file
 -- PiecesAreFew            a file has at most one piece more than bytes
-use Rattle.std.specs.Prelude.{◌≡◌, ◌≤◌, ℕ, ◌+◌, Bool, false, List, [], ◌∷◌, ◌++◌, length, map, Option, Some, None, ◌==◌, if◌then◌else◌}
-use Rattle.std.specs.List.{All, flat_map}
+use Rattle.std.specs.Prelude.{◌≡◌, ◌≤◌, ℕ, ◌+◌, Bool, false, List, [], ◌∷◌, ◌++◌, length, map, Option, Some, None, ◌==◌, if◌then◌else◌, All, flat_map}
 use Rattle.ucd_points.specs.Lines.{LineItem, items_of, joined}
 
 abbrev pub begins_mark : List ℕ → Bool

@@ -1,5 +1,4 @@
 -- The script of a piece, or its first fault.
---
 -- PieceFault                  the number of a line of the file, and the rule that is broken there
 -- piece_script piece          the commands of the piece, whose lines are counted in the file; or its first fault
 -- first_line_of commands n    the line of the first of these commands; n where there are none
@@ -7,7 +6,7 @@
 --                             of its first command
 -- stop_fault stop             the fault that the stop tells; None if memory ran out
 -- PieceCommandsAs result expected   the commands, or the fault, are what was expected; no claim if memory ran out
-use Rattle.std.specs.Prelude.{◌≡◌, ℕ, List, [], ◌∷◌, Option, Some, None, Result, Ok, Err, ⊤}
+use Rattle.std.specs.Prelude.{ℕ, List, [], ◌∷◌, Option, Some, None, Result, Ok, Err, ⊤}
 use Rattle.ucd_points.specs.Answers.{AnswersBy}
 use Rattle.script_lines.specs.Scripts.{ScriptFault, script_from}
 use Rattle.script_lines.specs.declared.command.Command.{Command}

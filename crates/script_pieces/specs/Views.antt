@@ -1,12 +1,10 @@
 -- The pieces of the code, as the definitions name them.
---
 -- mark_of mark            the mark: the number of its line, and its content
 -- piece_of piece          the piece: its mark, the number of its first line, and its bytes
 -- left head               the pieces that are left behind a head: its mark, the number of the line behind it, and the text from there
 --                         on; none where there is no head
 -- FitsIn n head           the number of that line and the bytes from there on are together less than n
-use Rattle.std.specs.Prelude.{ℕ, ◌+◌, ◌<◌, List, [], length, Option, Some, None, ⊤}
-use Rattle.std.specs.Option.{option_map}
+use Rattle.std.specs.Prelude.{ℕ, ◌+◌, ◌<◌, List, [], length, Option, Some, None, ⊤, option_map}
 use Rattle.ucd_points.specs.Lines.{items_of}
 use Rattle.script_pieces.specs.Pieces.{Mark, Piece, pieces_from}
 use Rattle.script_pieces.specs.declared.piece.Mark.{Mark as MarkRead}

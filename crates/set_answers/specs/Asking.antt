@@ -1,5 +1,4 @@
 -- What answers questions.
---
 -- CanAnswer files aliases holds   the aliases are those of the rows of these files, and the tests hold as these files say
 -- IsUnread stop why               a refusal by the rule and the place of a text that is no set; no claim if memory ran out
 -- IsUnnamed stop why              a refusal by the rule and the place of a name that means nothing; no claim if memory ran out

@@ -1,11 +1,10 @@
 -- The pieces of equal records that are kept, and when they stay.
---
 -- AreKeptOf pieces p R      the pieces, if there are some, are those of records that are R but where p says that they changed
 -- AreKept kept R            what is kept is so
 -- HasPieces kept R          pieces are kept, and they are those of the records R
 -- has_pieces kept           whether pieces are kept
 -- noted_stay                pieces stay if more code points are said to have changed
-use Rattle.std.proofs.Common.{◌≡◌, ℕ, ◌<◌, Bool, true, false, List, Option, Some, None, refl, ◌∙◌}
+use Rattle.std.proofs.Common.{◌≡◌, ℕ, ◌<◌, Bool, true, false, List, Option, Some, None, ◌∙◌}
 use Rattle.std.specs.Prelude.{⊤, is_some}
 use Rattle.std.proofs.lemmas.Bool.{false_from_ne_true}
 use Rattle.number_sets.specs.Keys.{has}

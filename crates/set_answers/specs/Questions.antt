@@ -1,5 +1,4 @@
 -- What a question is answered on the files of a release. UTS #35, "Unicode Sets".
---
 -- files_sources files             what names are resolved by in these files
 -- files_record files              the record of each code point that is derived of the rows of these files
 -- files_hold files test c         what a test says of the code point c, by the rows of these files and by what is derived of them;
@@ -12,14 +11,13 @@
 --                                 spans; or the fault of the text, and if it has none, the first name without meaning
 -- stop_fault stop                 the fault that the stop tells; None if memory ran out
 -- AskedAs result expected         the spans, or the rule and the place, are those that were expected; no claim if memory ran out
-use Rattle.std.specs.Prelude.{◌≡◌, ℕ, Bool, ◌&&◌, nat_lt, List, Result, Ok, Err, Option, Some, None}
+use Rattle.std.specs.Prelude.{ℕ, Bool, ◌&&◌, nat_lt, List, Result, Ok, Err, Option, Some, None}
 use Rattle.ucd_points.specs.Answers.{AnswersBy}
 use Rattle.ucd_points.specs.Bounds.{Bounds}
 use Rattle.ucd_points.specs.Limits.{point_count}
 use Rattle.ucd_facts.specs.Facts.{facts}
 use Rattle.ucd_model.specs.Records.{Record, record_at}
-use Rattle.release_rows.specs.FileItems.{FileItem}
-use Rattle.release_rows.specs.Releases.{rows_of_items}
+use Rattle.release_rows.specs.Releases.{rows_of_items, FileItem}
 use Rattle.property_aliases.specs.Sources.{Sources, sources_of}
 use Rattle.property_aliases.specs.declared.property.Test.{Test}
 use Rattle.unicodeset_parser.specs.Machine.{Fault as TextFault}

@@ -1,11 +1,9 @@
 -- What is said of a question that is refused.
---
 -- set_rule_code rule    the code of a rule that the text of a question breaks: S1 to S7
 -- name_rule_code rule   the code of a rule that a name breaks: S8 or S9
 -- ask_rule_code rule    the code of either
 -- unasked_text fault    the rule, and the place in its text, in bytes counted from 0
-use Rattle.std.specs.Prelude.{ℕ, List, ◌++◌, codes}
-use Rattle.std.specs.Fmt.{decimal}
+use Rattle.std.specs.Prelude.{ℕ, List, ◌++◌, codes, decimal}
 use Rattle.unicodeset_eval.specs.declared.stop.NameRule.{NameRule}
 use Rattle.unicodeset_eval.specs.declared.stop.NameRule.TheVariants.{S8, S9}
 use Rattle.unicodeset_parser.specs.declared.stop.SetRule.{SetRule}

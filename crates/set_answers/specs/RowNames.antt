@@ -1,5 +1,4 @@
 -- What questions need of the rows alone, and when it stays.
---
 -- AreRowNames names files     the names mean what the rows of these files say, and the sets have the code points that they give
 -- AreNamesBut names edited files   the names and the sets are those of files of which only the edited ones have other rows than these
 -- AreNamesKept kept files           what is kept is that of the edited files, if anything is
@@ -11,17 +10,15 @@
 -- UneditedStay ops old next   so it is of each p that names no file that an operation is on
 use Rattle.std.specs.Prelude.{◌≡◌, Bool, true, false, ◌||◌, List, Option, Some, None, ⊤}
 use Rattle.std.specs.List.{list_any}
-use Rattle.ucd_points.specs.declared.files.SourceFile.{SourceFile}
 use Rattle.ucd_points.specs.declared.files.SourceFile.TheVariants.{PropList, Scripts, WordBreakProperty, PropertyAliases, PropertyValueAliases}
 use Rattle.property_aliases.specs.Edits.{AreSameBut}
 use Rattle.property_aliases.specs.Found.{AreAliasesOf}
 use Rattle.property_aliases.specs.Numbers.{AreNumbersOf}
 use Rattle.property_aliases.specs.declared.edited.Edited.{Edited}
-use Rattle.release_rows.specs.FileItems.{FileItem}
 use Rattle.release_rows.specs.Operations.{op_file}
 use Rattle.release_rows.specs.declared.operation.Op.{Op}
 use Rattle.unicodeset_eval.specs.Found.{AreRowSets}
-use Rattle.release_rows.specs.Releases.{items_at, rows_of_items}
+use Rattle.release_rows.specs.Releases.{items_at, rows_of_items, FileItem, SourceFile}
 use Rattle.set_answers.specs.Questions.{files_sources}
 use Rattle.set_answers.specs.declared.kept_names.KeptNames.{KeptNames}
 use Rattle.set_answers.specs.declared.kept_names.Part.{Part}

@@ -1,5 +1,4 @@
 -- What questions need of the rows alone stays while groups edit other files.
---
 -- names_stay    what is kept stays, once the files that a group edits are noted
 -- again_meant   what is kept is what names are made again of
 use Rattle.std.proofs.Common.{List, Option, Some, None, refl, sym, ap, ◌∙◌}

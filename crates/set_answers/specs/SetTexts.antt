@@ -1,12 +1,9 @@
 -- The text of the answers to questions.
---
 -- span_entry s             the line of a span: one code point, or the first and the last joined by `..`, and LF
 -- members_in spans         how many code points lie in the spans together
 -- members_text spans       the members that a question is answered with: a line for each span, and `# total N` with their number
 -- set_section line spans   the answer to the question on this line: `# line L`, its members, and an empty line
-use Rattle.std.specs.Prelude.{ℕ, ◌+◌, ◌-◌, List, ◌++◌, codes, sum_by}
-use Rattle.std.specs.Fmt.{decimal}
-use Rattle.std.specs.List.{flat_map}
+use Rattle.std.specs.Prelude.{ℕ, ◌+◌, ◌-◌, List, ◌++◌, codes, sum_by, decimal, flat_map}
 use Rattle.ucd_points.specs.Bounds.{Bounds}
 use Rattle.ucd_model.specs.DerivedText.{line_end}
 use Rattle.ucd_points.specs.HexText.{span_text}

@@ -1,13 +1,11 @@
 -- What is kept for questions stays after a group.
---
 -- others_stay   after a group that was accepted, each code point that it is not answered with has the record that it had
 use Rattle.std.proofs.Common.{◌≡◌, ℕ, ◌<◌, false, List, Result, Ok, Err, sym, ap, ◌∙◌}
 use Rattle.edit_session.specs.Groups.{AppliesAs, files_facts}
 use Rattle.edit_session.specs.Unchanged.{unchanged_same}
 use Rattle.edit_session.specs.declared.accepted.Accepted.{Accepted}
 use Rattle.edit_session.specs.declared.apply_stop.Refused.{Refused}
-use Rattle.release_rows.specs.FileItems.{FileItem}
-use Rattle.release_rows.specs.Releases.{ReleaseItems}
+use Rattle.release_rows.specs.Releases.{ReleaseItems, FileItem}
 use Rattle.ucd_model.specs.Sameness.{is_in}
 use Rattle.ucd_points.specs.Limits.{point_count}
 use Rattle.set_answers.specs.Questions.{files_record}

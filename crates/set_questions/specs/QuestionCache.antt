@@ -1,5 +1,4 @@
 -- What is kept from one run of questions to the next.
---
 -- IsKept kept files         what is kept is that of these files, but for what is noted
 -- IsFilled kept files       names, sets and pieces are kept, and they are those of these files
 use Rattle.std.specs.Prelude.{List}

@@ -1,16 +1,13 @@
 -- The files that a group does not edit have the items that they had.
---
 -- unedited_stay   after a group that was accepted, each file that no operation of it is on has the same items
 use Rattle.std.proofs.Common.{◌≡◌, ◌≢◌, ℕ, ◌+◌, Bool, true, false, List, [], ◌∷◌, Option, Some, None, Result, Ok, Err, refl, sym, ap, subst, ◌∙◌}
 use Rattle.std.proofs.lemmas.Bool.{or_parts}
 use Rattle.std.specs.List.{list_any}
 use Rattle.ucd_model.specs.Validity.{first_broken}
 use Rattle.ucd_facts.specs.declared.form.Broken.{Broken}
-use Rattle.ucd_points.specs.declared.files.SourceFile.{SourceFile}
-use Rattle.release_rows.specs.FileItems.{FileItem}
 use Rattle.release_rows.specs.FileLemmas.{items_at-with_items_other}
 use Rattle.release_rows.specs.Operations.{edited, op_file, op_or_rule, with_edited}
-use Rattle.release_rows.specs.Releases.{ReleaseItems, items_at, with_items}
+use Rattle.release_rows.specs.Releases.{ReleaseItems, items_at, with_items, FileItem, SourceFile}
 use Rattle.release_rows.specs.declared.key_rule.KeyRule.{KeyRule}
 use Rattle.release_rows.specs.declared.operation.Op.{Op}
 use Rattle.edit_session.specs.Groups.{AppliesAs, after_ops, checked_files, files_facts, group_answer, then_ops, valid_files}

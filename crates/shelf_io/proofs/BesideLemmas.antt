@@ -1,8 +1,6 @@
 -- Names beside others.
-use Rattle.std.proofs.Common.{◌≡◌, ◌≢◌, ℕ, ◌-◌, Bool, true, false, List, length, ◌++◌, sym, ap, ◌∙◌, arith, codes, refl}
+use Rattle.std.proofs.Common.{◌≡◌, ◌≢◌, ℕ, ◌-◌, Bool, true, false, List, length, ◌++◌, sym, ap, ◌∙◌, arith, codes, refl, true≢false, length-append}
 use Rattle.std.proofs.Math.Seq.{drop-append_seam}
-use Rattle.std.proofs.lemmas.Bool.{true≢false}
-use Rattle.std.proofs.lemmas.List.{length-append}
 use Rattle.shelf_io.specs.Systems.{Entry, files_of}
 use Rattle.shelf_io.specs.Contents.{OnlyPath}
 use Rattle.shelf_io.specs.Beside.{beside, is_beside, shown_of, OnlyBoth}

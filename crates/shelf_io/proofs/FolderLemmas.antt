@@ -1,6 +1,5 @@
 -- The folder of a path, as a search for its last slash finds it.
-use Rattle.std.proofs.Common.{◌≡◌, ◌≢◌, ℕ, zero, suc, ◌+◌, ◌-◌, ◌<◌, List, length, get_or, take, drop, Option, None, Some, refl, sym, ap, ◌∙◌, arith, ⊎_elim, eq-eqb, ne_eqb, get_or-drop, length-drop}
-use Rattle.std.specs.Prelude.{option_map}
+use Rattle.std.proofs.Common.{◌≡◌, ◌≢◌, ℕ, zero, suc, ◌+◌, ◌-◌, ◌<◌, List, length, get_or, take, drop, Option, None, Some, refl, sym, ap, ◌∙◌, arith, ⊎_elim, eq-eqb, ne_eqb, get_or-drop, length-drop, option_map}
 use Rattle.std.specs.Str.Pattern.{RFindsChar}
 use Rattle.std.specs.Path.{slash, rfind_below, rsplit_once}
 use Rattle.std.proofs.lemmas.Bool.{cases_eq, cond-true, cond-false}

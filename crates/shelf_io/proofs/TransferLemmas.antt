@@ -1,22 +1,11 @@
 -- What a transfer in parts gives or takes as a whole, where the bytes of a reader or a writer are known.
-use Rattle.std.proofs.Common.{◌≡◌, ℕ, ◌+◌, ◌≤◌, List, ◌++◌, Option, None, Some, length, take, drop, sym, ap, ◌∙◌, append_assoc, arith, length-take, length-take-le, ◌-◌}
+use Rattle.std.proofs.Common.{◌≡◌, ℕ, ◌+◌, ◌≤◌, List, ◌++◌, length, take, drop, sym, ap, ◌∙◌, append_assoc, arith, length-take, length-take-le, ◌-◌}
 use Rattle.std.proofs.Math.Seq.{take-add, take-append-add}
 use Rattle.std.proofs.lemmas.List.{take-take, take-append-le}
-use Rattle.std.specs.Io.KnownBytes.{Appends, Consumes}
 
 -- what two writes appended, one after the other
-pub Appends-trans : (a b c : Option (List ℕ)) (bs cs : List ℕ) → Appends a b bs → Appends b c cs → Appends a c (bs ++ cs)
-Appends-trans None b c bs cs p q = tt
-Appends-trans (Some x) None c bs cs p q = absurd p
-Appends-trans (Some x) (Some y) None bs cs p q = absurd q
-Appends-trans (Some x) (Some y) (Some z) bs cs p q = q ∙ ap (λ l. l ++ cs) p ∙ append_assoc x bs cs
 
 -- what two reads consumed, one after the other
-pub Consumes-trans : (a b c : Option (List ℕ)) (bs cs : List ℕ) → Consumes a b bs → Consumes b c cs → Consumes a c (bs ++ cs)
-Consumes-trans None b c bs cs p q = tt
-Consumes-trans (Some x) None c bs cs p q = absurd p
-Consumes-trans (Some x) (Some y) None bs cs p q = absurd q
-Consumes-trans (Some x) (Some y) (Some z) bs cs p q = p ∙ ap (λ l. bs ++ l) q ∙ sym (append_assoc bs cs z)
 
 -- the front of a buffer after a part of it was filled, as a write through a slice of a vector gives it
 front-filled : (front part after rest : List ℕ) (len n : ℕ) → n ≤ length part → length front + n ≤ len

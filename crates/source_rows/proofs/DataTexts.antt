@@ -1,13 +1,12 @@
 -- The text of a row of UnicodeData.txt is read as that row.
-use Rattle.std.proofs.Common.{◌≡◌, ℕ, ◌+◌, ◌-◌, ◌<◌, Bool, true, false, cond, eqb, List, [], ◌∷◌, ◌++◌, length, map, get_or, Option, Some, refl, sym, ap, subst, ◌∙◌, append_assoc, arith, inl, inr, length-append}
-use Rattle.std.specs.Prelude.{codes, nat_eq, slice_get}
-use Rattle.std.specs.Fmt.{decimal}
+use Rattle.std.proofs.Common.{◌≡◌, ℕ, ◌+◌, ◌-◌, ◌<◌, Bool, true, false, cond, eqb, List, [], ◌∷◌, ◌++◌, length, map, get_or, Option, Some, refl, sym, ap, subst, ◌∙◌, append_assoc, arith, inl, inr, length-append, codes, nat_eq, slice_get, decimal}
 use Rattle.std.specs.Option.{option_eq}
 use Rattle.std.specs.List.{All, join_with_byte}
 use Rattle.std.proofs.lemmas.Option.{slice_get-get_or}
 use Rattle.std.proofs.lemmas.List.{get_or-append_right}
 use Rattle.std.proofs.lemmas.List.Elements.{All-nil, All-cons, All-head, All-tail, All-from_recursion}
 use Rattle.std.proofs.lemmas.Bool.Decides.{nat_tests}
+use Rattle.ucd_facts.specs.NameProofs.{code_names}
 use Rattle.ucd_points.specs.Lines.{is_lf, holds_line_feed, without_return}
 use Rattle.ucd_facts.specs.Names.{category_code}
 use Rattle.ucd_points.specs.Fields.{fields, trim, is_semicolon, is_name}
@@ -24,7 +23,7 @@ use Rattle.ucd_points.specs.HexTextProofs.{hex_text_spells_its_point}
 use Rattle.source_rows.proofs.Lacks.{Lacks, lacks_both, lacks_cons, lacks_each, lacks_join, split_join}
 use Rattle.source_rows.proofs.Trims.{Firm, trim_firm, firm_between}
 use Rattle.source_rows.proofs.Separators.{Separates, semicolon_separates, feed_separates, name_no_semicolon, name_no_feed}
-use Rattle.source_rows.proofs.TextValues.{hex_firm, category_reads, category_lacks, category_firm, class_reads, class_lacks, class_firm, case_reads, case_lacks, case_trimmed, decomposition_reads, decomposition_lacks, decomposition_trimmed}
+use Rattle.source_rows.proofs.TextValues.{hex_firm, category_lacks, category_firm, class_reads, class_lacks, class_firm, case_reads, case_lacks, case_trimmed, decomposition_reads, decomposition_lacks, decomposition_trimmed}
 
 -- ---- each field is trimmed, without `;` and LF
 
@@ -78,7 +77,7 @@ no_feed row c name ok named = lacks_join is_lf 59 (line_fields row c name) refl 
 
 values_read : (row : DataRow) (c : ℕ) (name : List ℕ) → DataOk row → ReadsValues (line_fields row c name) row
 values_read row c name ok = record {
-  category = category_reads row.category ok.category;
+  category = code_names row.category ok.category;
   class = class_reads row.class ok.class;
   decomposition = decomposition_reads row.kind row.mapping ok.decomposition;
   upper = case_reads row.upper ok.upper;

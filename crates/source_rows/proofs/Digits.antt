@@ -1,7 +1,6 @@
 -- Hexadecimal digits.
-use Rattle.std.proofs.Common.{◌≡◌, ℕ, Bool, true, false, List, [], ◌∷◌, length, Option, Some, None, fold, refl, arith}
+use Rattle.std.proofs.Common.{◌≡◌, ℕ, Bool, true, false, List, [], ◌∷◌, length, Option, Some, None, fold, refl, arith, eqb-true}
 use Rattle.std.specs.List.{position_or_len}
-use Rattle.std.proofs.lemmas.Bool.{eqb-true}
 use Rattle.source_rows.proofs.Found.{guarded}
 use Rattle.ucd_points.specs.Fields.{digit_of, with_digit, hex_number, if_point, point_of, is_dot}
 

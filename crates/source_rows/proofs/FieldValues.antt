@@ -1,6 +1,5 @@
 -- What the fields of a line hold.
-use Rattle.std.proofs.Common.{◌≡◌, ℕ, zero, suc, ◌+◌, ◌-◌, ◌<◌, Bool, true, false, cond, eqb, List, [], ◌∷◌, length, take, drop, reverse, map, get_or, refl, ap, ◌∙◌, arith, inl, inr}
-use Rattle.std.specs.Prelude.{filter}
+use Rattle.std.proofs.Common.{◌≡◌, ℕ, zero, suc, ◌+◌, ◌-◌, ◌<◌, Bool, true, false, cond, eqb, List, [], ◌∷◌, length, take, drop, reverse, map, get_or, refl, ap, ◌∙◌, arith, inl, inr, filter}
 use Rattle.std.specs.List.{All, list_any, prefix_len, suffix_len, slice_split, onto_first}
 use Rattle.std.proofs.lemmas.Bool.{cases_lt, cond_both, or_parts}
 use Rattle.std.proofs.lemmas.List.{take-append-drop, length-reverse, get_or-reverse}

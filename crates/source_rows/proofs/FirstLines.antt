@@ -1,6 +1,5 @@
 -- What a first line of a range says of the fault of two lines.
-use Rattle.std.proofs.Common.{◌≡◌, ℕ, ◌<◌, Bool, true, false, cond, eqb, leb, List, [], ◌∷◌, ◌++◌, length, Option, Some, None, Result, Ok, Err, refl, sym, ap, subst, ◌∙◌, arith, inl, inr}
-use Rattle.std.specs.Prelude.{◌⊎◌, ◌↔◌, codes, IsSome, IsOk}
+use Rattle.std.proofs.Common.{◌≡◌, ℕ, ◌<◌, Bool, true, false, cond, eqb, leb, List, [], ◌∷◌, ◌++◌, length, Option, Some, None, Result, Ok, Err, refl, sym, ap, subst, ◌∙◌, arith, inl, inr, ◌⊎◌, ◌↔◌, codes, IsSome, IsOk}
 use Rattle.std.specs.List.{before_first, after_first}
 use Rattle.std.proofs.lemmas.Bool.{and_parts, and_from, or_left, leb-true, leb-false, false≢true}
 use Rattle.std.proofs.lemmas.List.Folds.{list_all-append}
@@ -10,11 +9,10 @@ use Rattle.ucd_facts.specs.Names.{category_of, tag_of}
 use Rattle.ucd_points.specs.Fields.{fields, field, point_of, is_name, is_name_byte, label_of, class_of, case_of}
 use Rattle.ucd_facts.specs.Mappings.{mapping_of}
 use Rattle.ucd_points.specs.declared.files.SourceFile.TheVariants.{UnicodeData}
-use Rattle.ucd_facts.specs.declared.row.Row.{Row}
 use Rattle.source_rows.specs.Lines.{has_first_name, has_last_name, are_first_fields}
 use Rattle.source_rows.specs.Steps.{or_fault, and_then}
 use Rattle.source_rows.specs.DataFaults.{at_least_one, is_gt, canonical_or_fault, compat_or_fault, decomposition_or_fault, values_or_fault, unit_of, unit_or_fault, single_or_fault, first_label, are_last_fields, pair_end, pair_or_fault}
-use Rattle.source_rows.specs.Faults.{row_or_fault}
+use Rattle.source_rows.specs.Faults.{row_or_fault, Row}
 use Rattle.source_rows.specs.Ranges.{NoEnd, FirstLine, FirstLinesBegin}
 use Rattle.source_rows.specs.declared.decomposition.Decomposition.{Decomposition}
 use Rattle.source_rows.specs.declared.data_values.Values.{Values}

@@ -8,14 +8,12 @@ use Rattle.ucd_points.specs.Lines.{is_lf, holds_line_feed, without_return}
 use Rattle.ucd_points.specs.Fields.{fields}
 use Rattle.ucd_points.specs.MissingLines.{missing_rest, is_missing}
 use Rattle.ucd_facts.specs.Grammar.{ReadsLine, ReadsRange, IsRange, Reads}
-use Rattle.ucd_points.specs.declared.files.SourceFile.{SourceFile}
 use Rattle.ucd_points.specs.declared.files.SourceFile.TheVariants.{UnicodeData, PropList, Scripts, WordBreakProperty, CompositionExclusions, CaseFolding, SpecialCasing, PropertyAliases, PropertyValueAliases}
 use Rattle.ucd_facts.specs.OtherLines.{ReadsValue}
 use Rattle.ucd_facts.specs.declared.row.DataRow.{DataRow}
 use Rattle.ucd_facts.specs.declared.row.ValueRow.{ValueRow}
-use Rattle.ucd_facts.specs.declared.row.Row.{Row}
 use Rattle.ucd_facts.specs.declared.row.Row.TheVariants.{Unit as DataLine, Value as ValueLine, Exclusion as ExclusionLine, Fold as FoldLine, Casing as CasingLine, Alias as AliasLine, Missing as MissingLine}
-use Rattle.source_rows.specs.Faults.{value_line, line_or_fault, lines_or_fault, row_or_fault}
+use Rattle.source_rows.specs.Faults.{value_line, line_or_fault, lines_or_fault, row_or_fault, SourceFile, Row}
 use Rattle.source_rows.specs.DataFaults.{pair_or_fault}
 use Rattle.source_rows.specs.OtherFaults.{value_or_fault}
 use Rattle.source_rows.specs.Steps.{and_then}

@@ -1,7 +1,6 @@
 -- Keys are given exactly where the grammar reads them.
-use Rattle.std.proofs.Common.{◌≡◌, ℕ, Bool, true, false, cond, eqb, leb, List, [], ◌∷◌, length, Option, Some, None, Result, Ok, Err, refl, sym, subst}
+use Rattle.std.proofs.Common.{◌≡◌, ℕ, Bool, true, false, cond, eqb, leb, List, [], ◌∷◌, length, Option, Some, None, Result, Ok, Err, refl, sym, subst, eqb-true, eq-eqb, leb-true, le-leb}
 use Rattle.std.specs.List.{list_all}
-use Rattle.std.proofs.lemmas.Bool.{eqb-true, eq-eqb, leb-true, le-leb}
 use Rattle.std.proofs.lemmas.Option.{cond_some}
 use Rattle.ucd_points.specs.Lines.{holds_line_feed}
 use Rattle.ucd_points.specs.Bounds.{Bounds}
@@ -10,11 +9,10 @@ use Rattle.ucd_points.specs.MissingLines.{is_missing}
 use Rattle.ucd_facts.specs.Mappings.{conditions_of}
 use Rattle.ucd_facts.specs.Names.{status_of, status_code}
 use Rattle.ucd_facts.specs.OtherLines.{is_name_or_empty}
-use Rattle.ucd_points.specs.declared.files.SourceFile.{SourceFile}
 use Rattle.ucd_points.specs.declared.files.SourceFile.TheVariants.{UnicodeData, PropList, Scripts, WordBreakProperty, CompositionExclusions, CaseFolding, SpecialCasing, PropertyAliases, PropertyValueAliases}
 use Rattle.ucd_facts.specs.declared.row.FoldStatus.{FoldStatus}
 use Rattle.source_rows.specs.Steps.{or_fault}
-use Rattle.source_rows.specs.Keys.{condition_names, missing_names}
+use Rattle.source_rows.specs.Keys.{condition_names, missing_names, SourceFile}
 use Rattle.source_rows.specs.OtherFaults.{names_of}
 use Rattle.source_rows.specs.KeyGrammar.{ReadsCodeKey, ReadsMissingKey, ReadsValueKey, ReadsPropertyKey, ReadsFoldKey, ReadsCasingKey, ReadsAliasKey, ReadsKeyLine, ReadsKey, KeysAreRead, key_at, code_key, missing_key, value_key, property_key, fold_key, casing_key, alias_key, key_line_or_fault, key_or_fault}
 use Rattle.source_rows.specs.declared.fault.RowFault.{RowFault}

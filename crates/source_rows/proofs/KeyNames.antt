@@ -3,11 +3,9 @@ use Rattle.std.proofs.Common.{ℕ, List, [], ◌∷◌, take, refl, sym, ap, inl
 use Rattle.ucd_points.specs.Fields.{fields, field}
 use Rattle.ucd_facts.specs.Grammar.{Reads, ReadsLine, IsRange}
 use Rattle.ucd_facts.specs.NameProofs.{statuses_are_spelled}
-use Rattle.ucd_points.specs.declared.files.SourceFile.{SourceFile}
 use Rattle.ucd_points.specs.declared.files.SourceFile.TheVariants.{UnicodeData, PropList, Scripts, WordBreakProperty, CompositionExclusions, CaseFolding, SpecialCasing, PropertyAliases, PropertyValueAliases}
-use Rattle.ucd_facts.specs.declared.row.Row.{Row}
 use Rattle.ucd_facts.specs.declared.row.Row.TheVariants.{Unit as DataLine, Value as ValueLine, Exclusion as ExclusionLine, Fold as FoldLine, Casing as CasingLine, Alias as AliasLine, Missing as MissingLine}
-use Rattle.source_rows.specs.Keys.{condition_names}
+use Rattle.source_rows.specs.Keys.{condition_names, SourceFile, Row}
 use Rattle.source_rows.specs.KeyNames.{AnswersContent, ContentsHaveKeys}
 use Rattle.source_rows.proofs.Grammar.{rows_are_read}
 use Rattle.source_rows.proofs.Spans.{given}

@@ -1,13 +1,10 @@
 -- The text of the key of a row that the file can have is read as that key.
-use Rattle.std.proofs.Common.{◌≡◌, ℕ, zero, suc, ◌<◌, true, false, List, [], ◌∷◌, ◌++◌, length, take, Some, None, refl, sym, ap, subst, ◌∙◌, append_assoc, arith, inl, inr}
-use Rattle.std.specs.Prelude.{codes}
-use Rattle.std.specs.List.{All}
-use Rattle.std.specs.Str.{bytes_eq}
+use Rattle.std.proofs.Common.{◌≡◌, ℕ, zero, suc, ◌<◌, true, false, List, [], ◌∷◌, ◌++◌, length, take, Some, None, refl, sym, ap, subst, ◌∙◌, append_assoc, arith, inl, inr, codes, All, bytes_eq, append-nil, length-take-le}
 use Rattle.std.proofs.lemmas.Bool.{cases_eq, eq-eqb, ne_eqb, false_from_ne_true}
 use Rattle.std.proofs.lemmas.Option.{same_Some}
 use Rattle.std.proofs.lemmas.Slice.Eq.{bytes_eq-Decides}
-use Rattle.std.proofs.lemmas.List.{append-nil, length-take-le}
 use Rattle.std.proofs.lemmas.List.Elements.{All-nil, All-cons, All-take}
+use Rattle.ucd_facts.specs.NameProofs.{code_is_status}
 use Rattle.ucd_points.specs.Lines.{holds_line_feed}
 use Rattle.ucd_facts.specs.Names.{status_code}
 use Rattle.ucd_points.specs.Bounds.{Bounds}
@@ -18,15 +15,13 @@ use Rattle.ucd_points.specs.HexText.{hex_text, span_text}
 use Rattle.ucd_facts.specs.RowTexts.{names_text}
 use Rattle.ucd_facts.specs.RowValues.{RowOk, IsSpan, IsTrimmed, IsAliasName, AliasOk}
 use Rattle.ucd_points.specs.HexTextProofs.{hex_text_spells_its_point}
-use Rattle.ucd_points.specs.declared.files.SourceFile.{SourceFile}
 use Rattle.ucd_points.specs.declared.files.SourceFile.TheVariants.{UnicodeData, PropList, Scripts, WordBreakProperty, CompositionExclusions, CaseFolding, SpecialCasing, PropertyAliases, PropertyValueAliases}
 use Rattle.ucd_facts.specs.declared.row.AliasRow.{AliasRow}
 use Rattle.ucd_facts.specs.declared.row.FoldStatus.{FoldStatus}
 use Rattle.ucd_facts.specs.declared.row.FoldStatus.TheVariants.{C}
-use Rattle.ucd_facts.specs.declared.row.Row.{Row}
 use Rattle.ucd_facts.specs.declared.row.Row.TheVariants.{Unit as DataLine, Value as ValueLine, Exclusion as ExclusionLine, Fold as FoldLine, Casing as CasingLine, Alias as AliasLine, Missing as MissingLine}
 use Rattle.source_rows.specs.Fields.{fields_of, row_fields}
-use Rattle.source_rows.specs.Keys.{key_of, condition_names, missing_names}
+use Rattle.source_rows.specs.Keys.{key_of, condition_names, missing_names, SourceFile, Row}
 use Rattle.source_rows.specs.KeyGrammar.{ReadsKey, ReadsCodeKey, ReadsMissingKey, ReadsValueKey, ReadsPropertyKey, ReadsFoldKey, ReadsCasingKey, ReadsAliasKey}
 use Rattle.source_rows.specs.KeyTexts.{behind_name, joined_span, key_text, KeyTextsReadBack}
 use Rattle.source_rows.specs.declared.key.Key.{Key}
@@ -34,7 +29,7 @@ use Rattle.source_rows.proofs.KeyGrammar.{keys_are_read}
 use Rattle.source_rows.proofs.MissingLines.{no_rest, written}
 use Rattle.source_rows.proofs.OtherTexts.{Piece, IsLine, line_is, hex_piece, span_piece, span_trimmed, piece, piece_both, none, spaced, spaced_trimmed, value_piece, alias_line, all_names, cut_fields}
 use Rattle.source_rows.proofs.Seams.{before_no_seam}
-use Rattle.source_rows.proofs.TextValues.{hex_firm, span_spelled, status_reads, status_lacks}
+use Rattle.source_rows.proofs.TextValues.{hex_firm, span_spelled, status_lacks}
 use Rattle.source_rows.proofs.Trims.{trim_firm, space_behind}
 use Rattle.source_rows.proofs.WordTexts.{spaced_trimmed as words_trimmed, conditions_are, conditions_no_feed, no_conditions}
 
@@ -107,7 +102,7 @@ missing_key_reads file s takes ok = rw (joined_is s ok) (marked_span file s take
 -- ---- a code point and a name
 
 fold_key_reads : (c : ℕ) (s : FoldStatus) (fs : List (List ℕ)) → c < 1114112 → fs ≡ hex_text c ∷ (status_code s ∷ []) ∷ [] → ReadsFoldKey fs (record { code = Some c; names = (status_code s ∷ []) ∷ [] })
-fold_key_reads c s fs small e = subst (λ (gs : List (List ℕ)). ReadsFoldKey gs (record { code = Some c; names = (status_code s ∷ []) ∷ [] })) (sym e) (record { count = refl; point = c; spelled = hex_text_spells_its_point c small; code = refl; status = s; lettered = status_reads s; names = refl })
+fold_key_reads c s fs small e = subst (λ (gs : List (List ℕ)). ReadsFoldKey gs (record { code = Some c; names = (status_code s ∷ []) ∷ [] })) (sym e) (record { count = refl; point = c; spelled = hex_text_spells_its_point c small; code = refl; status = s; lettered = code_is_status s; names = refl })
 
 status_line : (c : ℕ) (s : FoldStatus) → IsLine (hex_text c ++ 59 ∷ 32 ∷ status_code s ∷ []) (hex_text c ∷ (status_code s ∷ []) ∷ [])
 status_line c s = two_line c (status_code s ∷ []) (piece (status_code s ∷ []) (λ p separates. status_lacks p (λ b low high. separates.high b (omega arith) high) s)) (status_is_trimmed s)

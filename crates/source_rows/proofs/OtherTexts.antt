@@ -1,9 +1,9 @@
 -- The text of a row of a file beside UnicodeData.txt is read as that row.
-use Rattle.std.proofs.Common.{◌≡◌, ℕ, ◌<◌, Bool, true, false, List, [], ◌∷◌, ◌++◌, length, map, Some, refl, sym, ap, subst, ◌∙◌, append_assoc, arith, inr}
-use Rattle.std.specs.Prelude.{codes}
+use Rattle.std.proofs.Common.{◌≡◌, ℕ, ◌<◌, Bool, true, false, List, [], ◌∷◌, ◌++◌, length, map, Some, refl, sym, ap, subst, ◌∙◌, append_assoc, arith, inr, codes}
 use Rattle.std.specs.List.{All, list_any, list_all, join_with_byte, before_first}
 use Rattle.std.proofs.lemmas.Bool.{and_from}
 use Rattle.std.proofs.lemmas.List.Elements.{All-nil, All-cons, All-head, All-tail}
+use Rattle.ucd_facts.specs.NameProofs.{code_is_status}
 use Rattle.ucd_points.specs.Bounds.{Bounds}
 use Rattle.ucd_points.specs.Lines.{is_lf, holds_line_feed}
 use Rattle.ucd_facts.specs.Names.{status_code}
@@ -28,7 +28,7 @@ use Rattle.source_rows.proofs.Trims.{trim_firm, space_before, space_behind}
 use Rattle.source_rows.proofs.Seams.{before_no_seam}
 use Rattle.source_rows.proofs.Separators.{Separates, semicolon_separates, hash_separates, feed_separates, name_no_semicolon, name_no_feed}
 use Rattle.source_rows.proofs.WordTexts.{spaced_trimmed as words_trimmed, conditions_are, conditions_no_feed, no_conditions}
-use Rattle.source_rows.proofs.TextValues.{hex_firm, span_spelled, span_lacks, span_firm, mapping_reads, mapping_lacks, mapping_firm, status_reads, status_lacks}
+use Rattle.source_rows.proofs.TextValues.{hex_firm, span_spelled, span_lacks, span_firm, mapping_reads, mapping_lacks, mapping_firm, status_lacks}
 
 -- ---- pieces of a line, before they are trimmed
 
@@ -176,7 +176,7 @@ fold_reads row ok =
     let pieces : All Piece (hex_text row.code ∷ fold_pieces row) = All-cons Piece (hex_text row.code) (fold_pieces row) (hex_piece row.code) (All-cons Piece (32 ∷ status_code row.status ∷ []) ((32 ∷ mapping_text row.mapping) ∷ [] ∷ []) (spaced (status_code row.status ∷ []) status) (All-cons Piece (32 ∷ mapping_text row.mapping) ([] ∷ []) (spaced (mapping_text row.mapping) (mapping_piece row.mapping)) (All-cons Piece [] [] none (All-nil Piece)))) in
     let trimmed : map trim (hex_text row.code ∷ fold_pieces row) ≡ hex_text row.code ∷ (status_code row.status ∷ []) ∷ mapping_text row.mapping ∷ [] ∷ [] = rw (trim_firm (hex_text row.code) (hex_firm row.code), status_trimmed row.status, spaced_trimmed (mapping_text row.mapping) (mapping_trimmed row.mapping)) refl in
     let line = line_is (fold_text row) (hex_text row.code) (fold_pieces row) (hex_text row.code ∷ (status_code row.status ∷ []) ∷ mapping_text row.mapping ∷ [] ∷ []) (fold_joined row) pieces trimmed in
-    record { no_feed = line.no_feed; reads = subst (λ (fs : List (List ℕ)). ReadsFold fs row) (sym line.cut) (record { count = inr (refl, refl); code = hex_text_spells_its_point row.code ok.code; status = status_reads row.status; mapping = mapping_reads row.mapping ok.mapping; length_fits = ok.length_fits }) }
+    record { no_feed = line.no_feed; reads = subst (λ (fs : List (List ℕ)). ReadsFold fs row) (sym line.cut) (record { count = inr (refl, refl); code = hex_text_spells_its_point row.code ok.code; status = code_is_status row.status; mapping = mapping_reads row.mapping ok.mapping; length_fits = ok.length_fits }) }
 
 -- ---- SpecialCasing.txt
 

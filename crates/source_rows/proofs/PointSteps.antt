@@ -1,7 +1,5 @@
 -- What the fields of a line that are read say of its row.
-use Rattle.std.proofs.Common.{◌≡◌, ◌≢◌, ℕ, ◌+◌, ◌-◌, Bool, true, false, cond, eqb, List, length, Some, None, Result, Ok, Err, refl, ap, ◌∙◌, arith}
-use Rattle.std.specs.List.{count_by}
-use Rattle.std.proofs.lemmas.Bool.{eqb-true, ne_eqb}
+use Rattle.std.proofs.Common.{◌≡◌, ◌≢◌, ℕ, ◌+◌, ◌-◌, Bool, true, false, cond, eqb, List, length, Some, None, Result, Ok, Err, refl, ap, ◌∙◌, arith, count_by, eqb-true, ne_eqb}
 use Rattle.ucd_points.specs.Bounds.{Bounds}
 use Rattle.ucd_points.specs.Fields.{field, point_of, is_name, is_semicolon}
 use Rattle.source_rows.specs.Fields.{fields_of}

@@ -5,13 +5,11 @@ use Rattle.ucd_facts.specs.Grammar.{Reads}
 use Rattle.ucd_points.specs.Lines.{is_lf, is_comment, holds_line_feed, without_return}
 use Rattle.ucd_points.specs.MissingLines.{is_trivia}
 use Rattle.ucd_points.specs.Fields.{fields, field, point_of}
-use Rattle.ucd_points.specs.declared.files.SourceFile.{SourceFile}
 use Rattle.ucd_points.specs.declared.files.SourceFile.TheVariants.{UnicodeData, PropList, Scripts, WordBreakProperty, CompositionExclusions, CaseFolding, SpecialCasing, PropertyAliases, PropertyValueAliases}
-use Rattle.ucd_facts.specs.declared.row.Row.{Row}
 use Rattle.ucd_facts.specs.declared.row.Row.TheVariants.{Unit as DataLine}
 use Rattle.source_rows.specs.Lines.{are_first_fields, is_first_line}
 use Rattle.source_rows.specs.DataFaults.{first_label, pair_end, pair_or_fault, unit_or_fault, values_or_fault}
-use Rattle.source_rows.specs.Faults.{row_or_fault, line_or_fault}
+use Rattle.source_rows.specs.Faults.{row_or_fault, line_or_fault, SourceFile, Row}
 use Rattle.source_rows.specs.RowLines.{TwoLines, RowsHaveLines}
 use Rattle.source_rows.specs.declared.fault.RowFault.TheVariants.{G03, G04, G09}
 use Rattle.source_rows.proofs.FirstLines.{no_row_alone}

@@ -11,7 +11,6 @@ use Rattle.ucd_facts.specs.OtherLines.{ReadsValue, ReadsExclusion, ReadsFold, Re
 use Rattle.ucd_facts.specs.Grammar.{ReadsLine, ReadsRange, IsRange, Reads}
 use Rattle.ucd_facts.specs.RowTexts.{row_text}
 use Rattle.ucd_facts.specs.RowValues.{IsSpan, IsKept, IsTrimmed, IsValueName, SingleOk, NameOk, DataOk, ValueOk, ExclusionOk, FoldOk, CasingOk, IsAliasName, AliasOk, RowOk}
-use Rattle.ucd_points.specs.declared.files.SourceFile.{SourceFile}
 use Rattle.ucd_points.specs.declared.files.SourceFile.TheVariants.{UnicodeData, PropList, Scripts, WordBreakProperty, CompositionExclusions, CaseFolding, SpecialCasing, PropertyAliases, PropertyValueAliases}
 use Rattle.ucd_facts.specs.declared.row.OtherFields.{OtherFields}
 use Rattle.ucd_facts.specs.declared.row.DataRow.{DataRow}
@@ -20,7 +19,6 @@ use Rattle.ucd_facts.specs.declared.row.ExclusionRow.{ExclusionRow}
 use Rattle.ucd_facts.specs.declared.row.FoldRow.{FoldRow}
 use Rattle.ucd_facts.specs.declared.row.CasingRow.{CasingRow}
 use Rattle.ucd_facts.specs.declared.row.AliasRow.{AliasRow}
-use Rattle.ucd_facts.specs.declared.row.Row.{Row}
 use Rattle.ucd_facts.specs.declared.row.Row.TheVariants.{Unit as DataLine, Value as ValueLine, Exclusion as ExclusionLine, Fold as FoldLine, Casing as CasingLine, Alias as AliasLine, Missing as MissingLine}
 use Rattle.source_rows.specs.Fields.{fields_of, row_fields}
 use Rattle.source_rows.specs.Laws.{RowsAreOk}
@@ -30,7 +28,7 @@ use Rattle.source_rows.proofs.FieldValues.{fields_kept, fields_lack, at_field, e
 use Rattle.source_rows.proofs.MissingLines.{rest_lacks}
 use Rattle.source_rows.proofs.ReadValues.{is_point, is_span, is_mapping, decomposition_ok, case_ok, class_ok, not_unassigned, spaced_lacks, conditions_again}
 use Rattle.source_rows.proofs.WordTexts.{conditions_are}
-use Rattle.source_rows.specs.Faults.{row_or_fault}
+use Rattle.source_rows.specs.Faults.{row_or_fault, SourceFile, Row}
 use Rattle.source_rows.proofs.Grammar.{rows_are_read}
 use Rattle.source_rows.proofs.RoundTrips.{text_reads}
 

@@ -1,9 +1,8 @@
 -- The separators of a line, and what is none.
-use Rattle.std.proofs.Common.{◌≡◌, ℕ, ◌<◌, ◌≤◌, Bool, true, false, List, [], ◌∷◌, refl, arith}
+use Rattle.std.proofs.Common.{◌≡◌, ℕ, ◌<◌, ◌≤◌, Bool, true, false, List, [], ◌∷◌, refl, arith, nat_le, ◌&&◌, not, ◌==◌}
 use Rattle.std.specs.List.{list_all}
 use Rattle.std.proofs.lemmas.Bool.{ne_eqb, and_parts, leb-true, not-true}
 use Rattle.std.proofs.lemmas.Bool.Decides.{nat_tests}
-use Rattle.std.specs.Prelude.{nat_le, ◌&&◌, not, ◌==◌}
 use Rattle.ucd_points.specs.Lines.{is_lf}
 use Rattle.ucd_points.specs.Fields.{is_semicolon, is_hash, is_name_byte, is_name}
 use Rattle.ucd_points.specs.HexText.{hex_digit}

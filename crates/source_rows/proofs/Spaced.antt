@@ -1,7 +1,6 @@
 -- Words with one space between them, one after the other.
-use Rattle.std.proofs.Common.{◌≡◌, ℕ, List, [], ◌∷◌, ◌++◌, refl, ◌∙◌, append_assoc}
+use Rattle.std.proofs.Common.{◌≡◌, ℕ, List, [], ◌∷◌, ◌++◌, refl, ◌∙◌, append_assoc, filter}
 use Rattle.std.specs.List.{join_with_byte, slice_split}
-use Rattle.std.specs.Prelude.{filter}
 use Rattle.ucd_points.specs.Lines.{is_blank}
 use Rattle.source_rows.specs.Fields.{with_word}
 use Rattle.ucd_facts.specs.Mappings.{is_some_bytes, words, spaced_words}

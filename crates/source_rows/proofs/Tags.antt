@@ -1,7 +1,6 @@
 -- Tags of compatibility mappings.
-use Rattle.std.proofs.Common.{◌≡◌, ℕ, Bool, true, false, cond, List, ◌∷◌, ◌++◌, Option, Some, None, Decides, refl, ap, ◌∙◌}
+use Rattle.std.proofs.Common.{◌≡◌, ℕ, Bool, true, false, cond, List, ◌∷◌, ◌++◌, Option, Some, None, Decides, refl, ap, ◌∙◌, bytes_eq}
 use Rattle.std.specs.List.{before_first, after_first}
-use Rattle.std.specs.Str.{bytes_eq}
 use Rattle.std.proofs.lemmas.Slice.Eq.{bytes_eq-Decides}
 use Rattle.ucd_facts.specs.Names.{positional_tag_of, shaped_tag_of, sized_tag_of, other_tag_of, or_else, tag_of, tag_text}
 use Rattle.ucd_facts.specs.declared.decomposition.Tag.{Tag}

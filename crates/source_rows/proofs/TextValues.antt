@@ -1,14 +1,12 @@
 -- What is written of a value is read as that value.
-use Rattle.std.proofs.Common.{◌≡◌, ◌≢◌, ℕ, ◌+◌, ◌/◌, ◌%◌, ◌<◌, ◌≤◌, Bool, true, false, eqb, List, [], ◌∷◌, ◌++◌, length, map, Option, Some, None, nat_lt, refl, sym, ap, ◌∙◌, append_assoc, arith, inl, inr}
-use Rattle.std.specs.Prelude.{filter, codes}
-use Rattle.std.specs.Fmt.{decimal}
+use Rattle.std.proofs.Common.{◌≡◌, ℕ, ◌+◌, ◌/◌, ◌%◌, ◌<◌, ◌≤◌, Bool, true, false, eqb, List, [], ◌∷◌, ◌++◌, length, map, Option, Some, None, nat_lt, refl, sym, ap, ◌∙◌, append_assoc, arith, inl, inr, filter, codes, decimal}
 use Rattle.std.specs.List.{All, list_all, join_with_byte}
 use Rattle.std.proofs.lemmas.Bool.{eqb-true, cond_both, ltb-true, le-leb, and_from, and_parts}
 use Rattle.std.proofs.lemmas.Bool.Decides.{nat_tests}
 use Rattle.std.proofs.lemmas.List.Elements.{All-nil, All-cons, All-head, All-tail}
 use Rattle.ucd_points.specs.Bounds.{Bounds}
 use Rattle.ucd_points.specs.Lines.{is_blank}
-use Rattle.ucd_facts.specs.Names.{category_of, category_code, status_of, status_code, tag_text}
+use Rattle.ucd_facts.specs.Names.{category_code, status_code, tag_text}
 use Rattle.ucd_points.specs.Fields.{point_of, SpellsSpan, class_of, is_class, is_digit, decimal_number, case_of, trim}
 use Rattle.ucd_facts.specs.Mappings.{is_some_bytes, words, SpellsMapping}
 use Rattle.ucd_facts.specs.DataLines.{SpellsDecomposition}
@@ -109,10 +107,6 @@ mapping_firm (c ∷ cs) h = joined_firm c cs
 
 -- ---- categories, statuses, classes, case mappings
 
-pub category_reads : (k : Category) → k ≢ Cn → category_of (category_code k) ≡ Some k
-category_reads Cn h = absurd (h refl)
-category_reads _ h = refl
-
 pub category_lacks : (p : ℕ → Bool) → ((b : ℕ) → 65 ≤ b → b ≤ 122 → p b ≡ false) → (k : Category) → Lacks p (category_code k)
 category_lacks p h Lu = lacks_cons p 76 (117 ∷ []) (h 76 (omega arith) (omega arith)) (lacks_cons p 117 [] (h 117 (omega arith) (omega arith)) refl)
 category_lacks p h Ll = lacks_cons p 76 (108 ∷ []) (h 76 (omega arith) (omega arith)) (lacks_cons p 108 [] (h 108 (omega arith) (omega arith)) refl)
@@ -144,10 +138,6 @@ category_lacks p h Cf = lacks_cons p 67 (102 ∷ []) (h 67 (omega arith) (omega 
 category_lacks p h Cs = lacks_cons p 67 (115 ∷ []) (h 67 (omega arith) (omega arith)) (lacks_cons p 115 [] (h 115 (omega arith) (omega arith)) refl)
 category_lacks p h Co = lacks_cons p 67 (111 ∷ []) (h 67 (omega arith) (omega arith)) (lacks_cons p 111 [] (h 111 (omega arith) (omega arith)) refl)
 category_lacks p h Cn = lacks_cons p 67 (110 ∷ []) (h 67 (omega arith) (omega arith)) (lacks_cons p 110 [] (h 110 (omega arith) (omega arith)) refl)
-
-pub status_reads : (s : FoldStatus) → status_of (status_code s ∷ []) ≡ Some s
-status_reads C = refl
-status_reads _ = refl
 
 pub status_lacks : (p : ℕ → Bool) → ((b : ℕ) → 65 ≤ b → b ≤ 122 → p b ≡ false) → (s : FoldStatus) → Lacks p (status_code s ∷ [])
 status_lacks p h C = lacks_cons p 67 [] (h 67 (omega arith) (omega arith)) refl

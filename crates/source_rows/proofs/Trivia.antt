@@ -1,6 +1,5 @@
 -- Bytes that are read as a row are no trivia.
-use Rattle.std.proofs.Common.{◌≡◌, ℕ, zero, suc, ◌+◌, ◌-◌, Bool, true, false, cond, eqb, leb, ◌&&◌, ◌||◌, List, [], ◌∷◌, length, take, drop, Some, None, Ok, Err, refl, sym, ◌∙◌, arith}
-use Rattle.std.specs.Prelude.{not}
+use Rattle.std.proofs.Common.{◌≡◌, ℕ, zero, suc, ◌+◌, ◌-◌, Bool, true, false, cond, eqb, leb, ◌&&◌, ◌||◌, List, [], ◌∷◌, length, take, drop, Some, None, Ok, Err, refl, sym, ◌∙◌, arith, not}
 use Rattle.std.specs.List.{list_all, list_any, before_first, after_first, position_or_len, prefix_len, suffix_len}
 use Rattle.std.proofs.lemmas.Bool.{false_from_ne_true, and_from, and_parts, not-true, or_parts}
 use Rattle.std.proofs.lemmas.Bool.Decides.{nat_tests}
@@ -8,16 +7,14 @@ use Rattle.std.proofs.lemmas.List.Splits.{slice_split_none}
 use Rattle.ucd_points.specs.Lines.{is_blank, is_lf, is_comment, holds_line_feed, without_return}
 use Rattle.ucd_points.specs.MissingLines.{missing_rest, is_missing, is_trivia}
 use Rattle.ucd_points.specs.Fields.{fields, field, trim, trim_start, is_hash, is_semicolon, point_of, span_of, hex_number, digit_of}
-use Rattle.ucd_points.specs.declared.files.SourceFile.{SourceFile}
 use Rattle.ucd_points.specs.declared.files.SourceFile.TheVariants.{UnicodeData, PropList, Scripts, WordBreakProperty, CompositionExclusions}
 use Rattle.ucd_facts.specs.declared.row.ValueRow.{ValueRow}
-use Rattle.ucd_facts.specs.declared.row.Row.{Row}
 use Rattle.source_rows.specs.Fields.{fields_of, row_fields}
 use Rattle.source_rows.specs.Steps.{and_then}
 use Rattle.source_rows.specs.Lines.{are_first_fields}
 use Rattle.source_rows.specs.DataFaults.{single_or_fault, pair_or_fault}
 use Rattle.source_rows.specs.OtherFaults.{value_or_fault, exclusion_or_fault, fold_or_fault, casing_or_fault, alias_or_fault}
-use Rattle.source_rows.specs.Faults.{value_line, row_or_fault, line_or_fault, lines_or_fault}
+use Rattle.source_rows.specs.Faults.{value_line, row_or_fault, line_or_fault, lines_or_fault, SourceFile, Row}
 use Rattle.source_rows.specs.Trivia.{RowsAreNoTrivia}
 use Rattle.source_rows.specs.declared.fault.RowFault.TheVariants.{G03, G04}
 use Rattle.source_rows.proofs.FieldCuts.{first_is}

@@ -1,5 +1,4 @@
 -- The row of a line of UnicodeData.txt, or the first rule that it breaks. UAX #44, section 5.7.
---
 -- at_least_one mapping              the mapping where it has a member, else None
 -- is_gt b                           the byte is `>`
 -- canonical_or_fault bs             field 5 without a tag: a bad mapping (G07), more than two code points (G10)
@@ -20,9 +19,8 @@
 -- pair_end label lo last            the span of a range: G09 where the last line is not that of the label, then G04
 -- pair_or_fault first last          two lines: G03 where the first one is not that of a range, G04, fields 2 to 14, `pair_end`
 -- DataTextAs result expected        the text is that of the row that was expected, or the result is its fault
-use Rattle.std.specs.Prelude.{◌≡◌, ℕ, Bool, true, false, ◌&&◌, List, [], ◌∷◌, length, ◌++◌, Option, Some, None, Result, Ok, Err, ◌==◌, nat_le, if◌then◌else◌, codes}
+use Rattle.std.specs.Prelude.{ℕ, Bool, true, false, ◌&&◌, List, [], ◌∷◌, length, ◌++◌, Option, Some, None, Result, Ok, Err, ◌==◌, nat_le, if◌then◌else◌, codes, bytes_eq}
 use Rattle.std.specs.List.{before_first, after_first}
-use Rattle.std.specs.Str.{bytes_eq}
 use Rattle.ucd_points.specs.Answers.{AnswersBy}
 use Rattle.ucd_points.specs.Bounds.{Bounds}
 use Rattle.ucd_facts.specs.Names.{category_of, tag_of}

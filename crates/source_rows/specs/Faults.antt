@@ -1,5 +1,4 @@
 -- The row that bytes stand for, or the first rule that they break. UAX #44, sections 4.2 and 5.3.
---
 -- value_line file content row      the row of a line with these values: a missing row where the line is one, else an ordinary row
 -- line_or_fault file content       of one line, by its file
 -- lines_or_fault file front last   of the bytes before and behind the first LF: two lines of UnicodeData.txt; G03 where a LF is
@@ -14,10 +13,10 @@ use Rattle.ucd_points.specs.Answers.{AnswersBy}
 use Rattle.ucd_points.specs.Lines.{is_lf, holds_line_feed, without_return}
 use Rattle.ucd_points.specs.Fields.{fields}
 use Rattle.ucd_points.specs.MissingLines.{is_missing}
-use Rattle.ucd_points.specs.declared.files.SourceFile.{SourceFile}
+pub use Rattle.ucd_points.specs.declared.files.SourceFile.{SourceFile}
 use Rattle.ucd_points.specs.declared.files.SourceFile.TheVariants.{UnicodeData, PropList, Scripts, WordBreakProperty, CompositionExclusions, CaseFolding, SpecialCasing, PropertyAliases, PropertyValueAliases}
 use Rattle.ucd_facts.specs.declared.row.ValueRow.{ValueRow}
-use Rattle.ucd_facts.specs.declared.row.Row.{Row}
+pub use Rattle.ucd_facts.specs.declared.row.Row.{Row}
 use Rattle.ucd_facts.specs.declared.row.Row.TheVariants.{Value as ValueLine, Missing as MissingLine}
 use Rattle.source_rows.specs.DataFaults.{single_or_fault, pair_or_fault}
 use Rattle.source_rows.specs.OtherFaults.{value_or_fault, exclusion_or_fault, fold_or_fault, casing_or_fault, alias_or_fault}

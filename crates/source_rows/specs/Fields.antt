@@ -1,5 +1,4 @@
 -- The fields of a text that has no comment. UAX #44, section 4.2.
---
 -- fields_of text   what stands between the `;`, each without white space around it; one field where there is no `;`
 -- row_fields file content   the fields of a line of a file other than UnicodeData.txt, up to a comment; of a missing line those behind
 --                  its mark

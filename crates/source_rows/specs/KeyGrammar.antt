@@ -1,5 +1,4 @@
 -- Which texts stand for which keys, and the first rule that a text breaks.
---
 -- ReadsCodeKey fs key           a code point
 -- ReadsPropertyKey fs key       a code point, and a name
 -- ReadsFoldKey fs key           a code point, and a status; the key has its letter
@@ -28,11 +27,10 @@ use Rattle.ucd_points.specs.MissingLines.{is_missing}
 use Rattle.ucd_facts.specs.Mappings.{conditions_of}
 use Rattle.ucd_facts.specs.Names.{status_of, status_code}
 use Rattle.ucd_facts.specs.OtherLines.{is_name_or_empty}
-use Rattle.ucd_points.specs.declared.files.SourceFile.{SourceFile}
 use Rattle.ucd_points.specs.declared.files.SourceFile.TheVariants.{UnicodeData, PropList, Scripts, WordBreakProperty, CompositionExclusions, CaseFolding, SpecialCasing, PropertyAliases, PropertyValueAliases}
 use Rattle.ucd_facts.specs.declared.row.FoldStatus.{FoldStatus}
 use Rattle.source_rows.specs.Faults.{fault_of}
-use Rattle.source_rows.specs.Keys.{condition_names, missing_names}
+use Rattle.source_rows.specs.Keys.{condition_names, missing_names, SourceFile}
 use Rattle.source_rows.specs.OtherFaults.{names_of}
 use Rattle.source_rows.specs.Steps.{or_fault}
 use Rattle.source_rows.specs.declared.fault.RowFault.{RowFault}

@@ -1,5 +1,4 @@
 -- The names of a row's key and the name of its group, as they stand in the content of the row.
---
 -- content_names file content   field 1 in PropList.txt and CaseFolding.txt; in SpecialCasing.txt the conditions of field 4, with one
 --                              space between them, and no name where there are none; the first two fields in PropertyAliases.txt,
 --                              the first three in PropertyValueAliases.txt; of a missing line those of its span; no names of the
@@ -24,12 +23,10 @@ use Rattle.ucd_points.specs.Bounds.{Bounds}
 use Rattle.ucd_points.specs.Fields.{fields, field, span_of}
 use Rattle.ucd_points.specs.MissingLines.{is_missing}
 use Rattle.ucd_facts.specs.Mappings.{spaced_words}
-use Rattle.ucd_points.specs.declared.files.SourceFile.{SourceFile}
 use Rattle.ucd_points.specs.declared.files.SourceFile.TheVariants.{PropList, Scripts, WordBreakProperty, CaseFolding, SpecialCasing, PropertyAliases, PropertyValueAliases}
-use Rattle.ucd_facts.specs.declared.row.Row.{Row}
 use Rattle.ucd_facts.specs.declared.row.Row.TheVariants.{Value as ValueLine, Alias as AliasLine, Missing as MissingLine}
 use Rattle.source_rows.specs.Faults.{row_or_fault}
-use Rattle.source_rows.specs.Keys.{condition_names, missing_names, key_code, key_names}
+use Rattle.source_rows.specs.Keys.{condition_names, missing_names, key_code, key_names, SourceFile, Row}
 
 abbrev pub span_names : Option Bounds → List (List ℕ)
 span_names (Some s) = missing_names s.hi

@@ -1,5 +1,4 @@
 -- The text of a key.
---
 -- behind_name sep names   the first name with what stands between it and the code point; nothing for no names
 -- joined_span lo hi       one code point's digits, or those of the first and the last one joined by `..`
 -- value_key_text code names   the code point; of the names of a missing row `# @missing: ` and the span up to the code point that the
@@ -8,14 +7,11 @@
 --                         or the conditions of a casing where there are any; of an alias row its names with ` ; ` between them; of a missing row
 --                         its span behind `# @missing: `
 -- KeyTextsReadBack        the text of the key of a row that the file can have is read as that key
-use Rattle.std.specs.Prelude.{◌≡◌, ℕ, List, [], ◌∷◌, ◌++◌, Option, Ok, if◌then◌else◌, codes}
-use Rattle.std.specs.Str.{bytes_eq}
+use Rattle.std.specs.Prelude.{◌≡◌, ℕ, List, [], ◌∷◌, ◌++◌, Option, Ok, if◌then◌else◌, codes, bytes_eq}
 use Rattle.ucd_facts.specs.RowTexts.{case_text, names_text}
 use Rattle.ucd_facts.specs.RowValues.{RowOk}
-use Rattle.ucd_points.specs.declared.files.SourceFile.{SourceFile}
 use Rattle.ucd_points.specs.declared.files.SourceFile.TheVariants.{PropList, Scripts, WordBreakProperty, CaseFolding, SpecialCasing, PropertyAliases, PropertyValueAliases}
-use Rattle.ucd_facts.specs.declared.row.Row.{Row}
-use Rattle.source_rows.specs.Keys.{key_of}
+use Rattle.source_rows.specs.Keys.{key_of, SourceFile, Row}
 use Rattle.source_rows.specs.KeyGrammar.{key_or_fault}
 use Rattle.source_rows.specs.declared.key.Key.{Key}
 

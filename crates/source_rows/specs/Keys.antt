@@ -1,5 +1,4 @@
 -- What a row is found by, and the order of what it is found by.
---
 -- row_span row              the code points that the row speaks of; the one of a folding or a casing. A row of names has 0
 -- one_point c               the code points from c to c
 -- condition_names bs        the conditions as one name; no name where there are none
@@ -19,17 +18,16 @@
 -- key_cmp a b               by the code point, and then by the names, one after the other, each by its bytes. So a name is
 --                           before each longer one that begins with it
 -- is_before a b             a comes before b in this order
-use Rattle.std.specs.Prelude.{ℕ, Bool, true, false, ◌&&◌, List, [], ◌∷◌, take, Option, Some, None, ◌==◌, codes}
+use Rattle.std.specs.Prelude.{ℕ, Bool, true, false, ◌&&◌, List, [], ◌∷◌, take, Option, Some, None, ◌==◌, codes, bytes_eq}
 use Rattle.std.specs.Cmp.Lexicographic.{pointwise, slice_cmp}
 use Rattle.std.specs.Ordering.{ordering_then, nat_cmp, is_lt}
-use Rattle.std.specs.Str.{bytes_eq}
 use Rattle.std.specs.declared.cmp.Ordering.{Ordering}
 use Rattle.ucd_points.specs.Bounds.{Bounds}
 use Rattle.ucd_points.specs.HexText.{hex_text}
 use Rattle.ucd_facts.specs.Names.{status_code}
-use Rattle.ucd_points.specs.declared.files.SourceFile.{SourceFile}
+pub use Rattle.ucd_points.specs.declared.files.SourceFile.{SourceFile}
 use Rattle.ucd_points.specs.declared.files.SourceFile.TheVariants.{PropList, PropertyAliases}
-use Rattle.ucd_facts.specs.declared.row.Row.{Row}
+pub use Rattle.ucd_facts.specs.declared.row.Row.{Row}
 use Rattle.ucd_facts.specs.declared.row.Row.TheVariants.{Unit as DataLine, Value as ValueLine, Exclusion as ExclusionLine, Fold as FoldLine, Casing as CasingLine, Alias as AliasLine, Missing as MissingLine}
 use Rattle.source_rows.specs.declared.key.Key.{Key}
 

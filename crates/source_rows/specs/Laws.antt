@@ -1,5 +1,4 @@
 -- Laws over the definitions.
---
 -- RowsAreRead          a row is given exactly where the bytes are read as that row
 -- RowsAreOk            the row values that a file can have are those that some bytes are read as
 -- TextsReadBack        the text of a row that the file can have is read as that row
@@ -15,9 +14,7 @@ use Rattle.ucd_facts.specs.RowTexts.{row_text}
 use Rattle.ucd_facts.specs.RowValues.{RowOk}
 use Rattle.ucd_facts.specs.declared.category.Category.{Category}
 use Rattle.ucd_facts.specs.declared.category.Category.TheVariants.{Cn}
-use Rattle.ucd_points.specs.declared.files.SourceFile.{SourceFile}
-use Rattle.ucd_facts.specs.declared.row.Row.{Row}
-use Rattle.source_rows.specs.Faults.{row_or_fault}
+use Rattle.source_rows.specs.Faults.{row_or_fault, SourceFile, Row}
 
 abbrev pub RowsAreRead : Type 0
 RowsAreRead = (file : SourceFile) (bytes : List ℕ) (row : Row) → (row_or_fault file bytes ≡ Ok row) ↔ Reads file bytes row

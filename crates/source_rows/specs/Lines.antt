@@ -1,5 +1,4 @@
 -- The lines of a range. UAX #44, section 4.2.3.
---
 -- has_first_name name     `<Label, First>`, with a label that is a name
 -- has_last_name name      `<Label, Last>`, with a label that is a name
 -- are_first_fields fs     fs has 15 fields, the second of which is `<Label, First>`

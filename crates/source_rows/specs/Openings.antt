@@ -1,5 +1,4 @@
 -- How the text of a name begins.
---
 -- may_open_name text      the first byte is white space or `<`, as it is of the text of a name that begins with `<`
 use Rattle.std.specs.Prelude.{ℕ, Bool, false, ◌||◌, List, [], ◌∷◌, ◌==◌}
 use Rattle.ucd_points.specs.Lines.{is_blank}

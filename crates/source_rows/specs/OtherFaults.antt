@@ -1,6 +1,5 @@
 -- The row of a line of a file beside UnicodeData.txt, or the first rule that it breaks, by the fields of the line. UAX #44,
 -- section 4.2, and the heads of the files. The number of fields (G03) comes first, then the fields in order.
---
 -- is_empty bs                there is no byte
 -- value_or_fault fs          PropList.txt, Scripts.txt, WordBreakProperty.txt: the span (G04), the value (G11)
 -- exclusion_or_fault fs      CompositionExclusions.txt: the span (G04)

@@ -1,5 +1,4 @@
 -- What a row of UnicodeData.txt gives to its code points.
---
 -- used_fields_in line   the fields that are read of a line, at their places, and in the place of the others no bytes
 -- HasUsedFields line fs  these are so of the 13 fields behind a name
 -- HasCaseFields line fs  the last three of nine fields

@@ -1,5 +1,4 @@
 -- What a first line of a range says of the fault of two lines. UAX #44, section 4.2.3.
---
 -- OwnFieldsRead fs                code, name and values of the first line are read
 -- NoEnd lo hi                     the last line's code is no code point, or below the first one's
 -- PairFaults fs last given        of two lines whose first one is read: G09 exactly where the last one is not that of the label,
@@ -14,10 +13,9 @@ use Rattle.std.specs.Prelude.{◌≡◌, ◌≢◌, ◌⊎◌, ◌↔◌, ℕ, �
 use Rattle.ucd_points.specs.Lines.{holds_line_feed, without_return}
 use Rattle.ucd_points.specs.Fields.{fields, field, point_of, is_name}
 use Rattle.ucd_points.specs.declared.files.SourceFile.TheVariants.{UnicodeData}
-use Rattle.ucd_facts.specs.declared.row.Row.{Row}
 use Rattle.source_rows.specs.Lines.{is_first_line}
 use Rattle.source_rows.specs.DataFaults.{values_or_fault, first_label, are_last_fields}
-use Rattle.source_rows.specs.Faults.{row_or_fault}
+use Rattle.source_rows.specs.Faults.{row_or_fault, Row}
 use Rattle.source_rows.specs.declared.fault.RowFault.{RowFault}
 use Rattle.source_rows.specs.declared.fault.RowFault.TheVariants.{G04, G09}
 

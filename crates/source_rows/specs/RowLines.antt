@@ -1,5 +1,4 @@
 -- How many lines a row has. UAX #44, section 4.2.3.
---
 -- TwoLines file bytes   a line of UnicodeData.txt that is no trivia and begins a range, with or without a CR at its end, a LF, and a
 --                       line that is not empty
 -- HasLines file bytes   bytes with a LF are two such lines; a line without one begins no range
@@ -7,10 +6,8 @@
 use Rattle.std.specs.Prelude.{◌≡◌, ◌≢◌, ℕ, true, false, List, [], ◌∷◌, ◌++◌, Ok}
 use Rattle.ucd_points.specs.Lines.{holds_line_feed, without_return}
 use Rattle.ucd_points.specs.MissingLines.{is_trivia}
-use Rattle.ucd_points.specs.declared.files.SourceFile.{SourceFile}
 use Rattle.ucd_points.specs.declared.files.SourceFile.TheVariants.{UnicodeData}
-use Rattle.ucd_facts.specs.declared.row.Row.{Row}
-use Rattle.source_rows.specs.Faults.{row_or_fault}
+use Rattle.source_rows.specs.Faults.{row_or_fault, SourceFile, Row}
 use Rattle.source_rows.specs.Lines.{is_first_line}
 
 pub record TwoLines (file : SourceFile) (bytes : List ℕ) : Type 0 where

@@ -1,5 +1,4 @@
 -- Rows as they stand in their lines.
---
 -- value_in text, fold_in text, casing_in text   the row that stands in the text
 -- row_in row                 the row that stands in a line of any file
 -- valued_in row              the row that stands in a line of a file that gives values

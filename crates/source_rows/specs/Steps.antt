@@ -1,5 +1,4 @@
 -- Steps of reading, each of which gives what was found or the first fault.
---
 -- or_fault fault found use   what is made of what was found; the fault where nothing was
 -- and_then found use         what is made of what was found; the fault that was found instead
 use Rattle.std.specs.Prelude.{Option, Some, None, Result, Ok, Err}

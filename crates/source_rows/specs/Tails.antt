@@ -1,5 +1,4 @@
 -- Lines of UnicodeData.txt by what stands behind the name. UAX #44, section 5.3, table 9.
---
 -- tail_fields tail              the fields behind a name at their places in the line, and no bytes in the two before them
 -- tail_values tail              the values of the fields behind a name, or their first fault; None where they are not 13
 -- bare_values category class    the values of a row that gives a category and a combining class, and no mapping

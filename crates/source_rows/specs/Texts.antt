@@ -1,9 +1,7 @@
 -- Parts of the text of a row.
---
 -- ended fs    the fields, each with a `;` behind it
 -- named ns    names, each with ` ; ` before it
-use Rattle.std.specs.Prelude.{ℕ, List, [], ◌∷◌, ◌++◌, codes}
-use Rattle.std.specs.List.{flat_map}
+use Rattle.std.specs.Prelude.{ℕ, List, [], ◌∷◌, ◌++◌, codes, flat_map}
 
 abbrev pub ended : List (List ℕ) → List ℕ
 ended fs = flat_map (λ f. f ++ 59 ∷ []) fs

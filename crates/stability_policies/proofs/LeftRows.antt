@@ -1,10 +1,8 @@
 -- Named rows of which those are left out that stand in both releases.
-use Rattle.std.proofs.Common.{◌≡◌, ℕ, ◌+◌, ◌-◌, ◌<◌, ◌≤◌, Bool, true, false, ◌&&◌, leb, not, if◌then◌else◌, List, [], ◌∷◌, ◌++◌, length, get_or, drop, take, map, filter, length-drop, Some, None, append_assoc, refl, sym, ap, subst, ◌∙◌, arith, add-one, drop-cons}
+use Rattle.std.proofs.Common.{◌≡◌, ℕ, ◌+◌, ◌-◌, ◌<◌, ◌≤◌, Bool, true, false, ◌&&◌, leb, not, if◌then◌else◌, List, [], ◌∷◌, ◌++◌, length, get_or, drop, take, map, filter, length-drop, Some, None, append_assoc, refl, sym, ap, subst, ◌∙◌, arith, add-one, drop-cons, take_all, bytes_eq}
 use Rattle.std.proofs.lemmas.Bool.Decides.{nat_tests}
-use Rattle.std.proofs.lemmas.List.{take_all}
 use mathlib.Core.Path.{fun_ext}
 use Rattle.std.proofs.lemmas.Slice.Eq.{bytes_eq-Decides}
-use Rattle.std.specs.Str.{bytes_eq}
 use Rattle.ucd_facts.specs.Facts.{within}
 use Rattle.ucd_facts.specs.declared.row.Row.{Row}
 use Rattle.ucd_facts.specs.declared.row.Row.TheVariants.{Unit as DataLine}

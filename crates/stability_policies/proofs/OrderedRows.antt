@@ -1,50 +1,23 @@
 -- The rows of UnicodeData.txt follow one another.
-use Rattle.std.proofs.Common.{◌≡◌, ℕ, ◌+◌, ◌≤◌, Bool, true, false, cond, ◌&&◌, ◌||◌, leb, List, [], ◌∷◌, ◌++◌, Option, Some, None, Result, Ok, Err, refl, sym, ap, subst, ◌∙◌, arith}
+use Rattle.std.proofs.Common.{◌≡◌, ℕ, ◌+◌, ◌≤◌, Bool, false, ◌&&◌, leb, List, [], ◌∷◌, ◌++◌, Option, Some, None, Ok, refl, sym, subst, ◌∙◌, arith, append-nil}
 use Rattle.std.specs.List.{All, list_any}
 use Rattle.std.proofs.lemmas.Bool.Decides.{nat_tests}
-use Rattle.std.proofs.lemmas.List.{append-nil}
 use Rattle.std.proofs.lemmas.List.Elements.{All-cons, All-head, All-nil}
 use Rattle.std.proofs.lemmas.Bool.{or_parts}
-use Rattle.ucd_points.specs.MissingLines.{is_trivia}
-use Rattle.ucd_facts.specs.RowValues.{RowOk}
+use Rattle.release_rows.specs.FileLemmas.{row_ok}
+use Rattle.release_rows.specs.ValuesApartProofs.{no_overlap, rows_append}
 use Rattle.ucd_points.specs.declared.files.SourceFile.TheVariants.{UnicodeData}
 use Rattle.ucd_facts.specs.declared.row.DataRow.{DataRow}
-use Rattle.ucd_facts.specs.declared.row.Row.{Row}
 use Rattle.ucd_facts.specs.declared.row.Row.TheVariants.{Unit as DataLine, Value as ValueLine, Exclusion as ExclusionLine, Fold as FoldLine, Casing as CasingLine, Alias as AliasLine, Missing as MissingLine}
-use Rattle.source_rows.specs.Faults.{row_or_fault}
 use Rattle.source_rows.specs.Laws.{RowsAreOk, RowsAreRead}
-use Rattle.source_rows.specs.declared.fault.RowFault.{RowFault}
 use Rattle.release_rows.specs.Cuts.{Rises, begins_from}
-use Rattle.release_rows.specs.FileItems.{FileItem, onto_rows, rows_in}
+use Rattle.release_rows.specs.FileItems.{FileItem, onto_rows, rows_in, Row}
 use Rattle.release_rows.specs.Keys.{key_rule, overlaps, same_key}
 use Rattle.release_rows.specs.Loading.{content_row}
 use Rattle.release_rows.specs.Releases.{AreKept, AreKeptBelow}
-use Rattle.release_rows.specs.declared.conflict.Conflict.TheVariants.{K1, K4}
 use Rattle.stability_policies.specs.NamedRows.{AreAbove, named}
 
--- ---- a row that is kept is one of UnicodeData.txt, with a span
-
-module _ (read : RowsAreRead) (ok : RowsAreOk) where
-  read_row : (content : List ℕ) (row : Row) → content_row UnicodeData content ≡ Ok (Some row) → row_or_fault UnicodeData content ≡ Ok row
-  read_row content row h = by (is_trivia UnicodeData content) (row_or_fault UnicodeData content) refl refl
-    where
-      same_row : (a b : Row) → (let x : Result (Option Row) RowFault = Ok (Some a) in x ≡ Ok (Some b)) → a ≡ b
-      same_row a b e = cc
-
-      by : (b : Bool) (r : Result Row RowFault) → is_trivia UnicodeData content ≡ b → row_or_fault UnicodeData content ≡ r → row_or_fault UnicodeData content ≡ Ok row
-      by true r e f = absurd (let k = (rw e at h) in cc)
-      by false (Ok other) e f = f ∙ ap Ok (same_row other row (rw (e, f) at h))
-      by false (Err fault) e f = absurd (let k = (rw (e, f) at h) in cc)
-
-  pub row_ok : (content : List ℕ) (row : Row) → content_row UnicodeData content ≡ Ok (Some row) → RowOk UnicodeData row
-  row_ok content row h = (ok UnicodeData row).1 (content, (read UnicodeData content row).0 (read_row content row h))
-
 -- ---- a row against the one before it
-
-no_second_rule : (any overlap : Bool) → cond any (Some K1) (cond overlap (Some K4) None) ≡ None → overlap ≡ false
-no_second_rule true overlap e = absurd cc
-no_second_rule false true e = absurd cc
-no_second_rule false false e = refl
 
 any_last : {X : Type 0} (p : X → Bool) (xs : List X) (x : X) → list_any p (xs ++ x ∷ []) ≡ false → p x ≡ false
 any_last p [] x e = (or_parts (p x) false e).0
@@ -60,19 +33,11 @@ Leaves above m n = (r : DataRow) → key_rule UnicodeData above (DataLine r) ≡
 leaves_last : (above : List Row) (x : DataRow) → Leaves (above ++ DataLine x ∷ []) x.span.lo (x.span.hi + 1)
 leaves_last above x r free from ordered =
     let rows : List Row = above ++ DataLine x ∷ [] in
-    let none : list_any (overlaps UnicodeData (DataLine r)) rows ≡ false = no_second_rule (list_any (same_key UnicodeData (DataLine r)) rows) (list_any (overlaps UnicodeData (DataLine r)) rows) free in
+    let none : list_any (overlaps UnicodeData (DataLine r)) rows ≡ false = no_overlap (list_any (same_key UnicodeData (DataLine r)) rows) (list_any (overlaps UnicodeData (DataLine r)) rows) free in
     let apart : overlaps UnicodeData (DataLine r) (DataLine x) ≡ false = any_last (overlaps UnicodeData (DataLine r)) above (DataLine x) none in
     apart_spans r.span.lo r.span.hi x.span.lo x.span.hi from ordered apart
 
 -- ---- all rows
-
-onto_append : (p : Option Row) (xs ys : List Row) → onto_rows p (xs ++ ys) ≡ onto_rows p xs ++ ys
-onto_append None xs ys = refl
-onto_append (Some x) xs ys = refl
-
-rows_push : (above : List FileItem) (item : FileItem) → rows_in (above ++ item ∷ []) ≡ rows_in above ++ onto_rows item.row []
-rows_push [] item = refl
-rows_push (a ∷ above) item = ap (onto_rows a.row) (rows_push above item) ∙ onto_append a.row (rows_in above) (onto_rows item.row [])
 
 module _ (read : RowsAreRead) (ok : RowsAreOk) where
   above_by : (item : FileItem) (rest : List Row) (above next : List Row) (m n : ℕ) (o : Option Row) → next ≡ above ++ onto_rows o [] → content_row UnicodeData item.content ≡ Ok o
@@ -80,21 +45,21 @@ module _ (read : RowsAreRead) (ok : RowsAreOk) where
       → ((k l : ℕ) → All (begins_from k) rest → Rises rest → Leaves next k l → AreAbove l (named rest)) → AreAbove n (named (onto_rows o rest))
   above_by item rest above next m n None is content free from rise leaves more = more m n from rise (subst (λ xs. Leaves xs m n) (sym (is ∙ append-nil above)) leaves)
   above_by item rest above next m n (Some (DataLine x)) is content free from rise leaves more =
-      let span = (row_ok read ok item.content (DataLine x) content).span in
+      let span = (row_ok read ok UnicodeData item.content (DataLine x) content).span in
       let ordered : x.span.lo ≤ x.span.hi = span.0 in
       let begins : m ≤ x.span.lo = All-head (begins_from m) (DataLine x) rest from in
       (leaves x (free (DataLine x) refl) begins ordered, ordered, more x.span.lo (x.span.hi + 1) rise.0 rise.1 (subst (λ xs. Leaves xs x.span.lo (x.span.hi + 1)) (sym is) (leaves_last above x)))
-  above_by item rest above next m n (Some (ValueLine x)) is content free from rise leaves more = absurd (row_ok read ok item.content (ValueLine x) content)
-  above_by item rest above next m n (Some (ExclusionLine x)) is content free from rise leaves more = absurd (row_ok read ok item.content (ExclusionLine x) content)
-  above_by item rest above next m n (Some (FoldLine x)) is content free from rise leaves more = absurd (row_ok read ok item.content (FoldLine x) content)
-  above_by item rest above next m n (Some (CasingLine x)) is content free from rise leaves more = absurd (row_ok read ok item.content (CasingLine x) content)
-  above_by item rest above next m n (Some (AliasLine x)) is content free from rise leaves more = absurd (row_ok read ok item.content (AliasLine x) content)
-  above_by item rest above next m n (Some (MissingLine x)) is content free from rise leaves more = absurd (row_ok read ok item.content (MissingLine x) content)
+  above_by item rest above next m n (Some (ValueLine x)) is content free from rise leaves more = absurd (row_ok read ok UnicodeData item.content (ValueLine x) content)
+  above_by item rest above next m n (Some (ExclusionLine x)) is content free from rise leaves more = absurd (row_ok read ok UnicodeData item.content (ExclusionLine x) content)
+  above_by item rest above next m n (Some (FoldLine x)) is content free from rise leaves more = absurd (row_ok read ok UnicodeData item.content (FoldLine x) content)
+  above_by item rest above next m n (Some (CasingLine x)) is content free from rise leaves more = absurd (row_ok read ok UnicodeData item.content (CasingLine x) content)
+  above_by item rest above next m n (Some (AliasLine x)) is content free from rise leaves more = absurd (row_ok read ok UnicodeData item.content (AliasLine x) content)
+  above_by item rest above next m n (Some (MissingLine x)) is content free from rise leaves more = absurd (row_ok read ok UnicodeData item.content (MissingLine x) content)
 
   rows_above : (above items : List FileItem) (m n : ℕ) → AreKeptBelow UnicodeData above items → All (begins_from m) (rows_in items) → Rises (rows_in items) → Leaves (rows_in above) m n → AreAbove n (named (rows_in items))
   rows_above above [] m n kept from rise leaves = tt
   rows_above above (item ∷ items) m n kept from rise leaves =
-      above_by item (rows_in items) (rows_in above) (rows_in (above ++ item ∷ [])) m n item.row (rows_push above item) kept.0.is_read (λ row e. rw e at kept.0.stands) from rise leaves
+      above_by item (rows_in items) (rows_in above) (rows_in (above ++ item ∷ [])) m n item.row (rows_append above item) kept.0.is_read (λ row e. rw e at kept.0.stands) from rise leaves
       (λ k l. rows_above (above ++ item ∷ []) items k l kept.1)
 
   all_from_zero : (rows : List Row) → All (begins_from 0) rows

@@ -1,22 +1,17 @@
 -- Code points without a mapping: their NFKC and their folding under it.
-use Rattle.std.proofs.Common.{◌≡◌, ℕ, Bool, true, false, ◌&&◌, not, ◌==◌, List, [], ◌∷◌, ◌++◌, Ok, if◌then◌else◌, refl, sym, ap, ◌∙◌}
-use Rattle.std.specs.Str.{bytes_eq}
+use Rattle.std.proofs.Common.{◌≡◌, ℕ, Bool, true, false, ◌&&◌, not, ◌==◌, List, [], ◌∷◌, ◌++◌, Ok, if◌then◌else◌, refl, sym, ap, ◌∙◌, bytes_eq, append-nil}
 use Rattle.std.proofs.lemmas.Slice.Eq.{bytes_eq-Decides}
-use Rattle.std.proofs.lemmas.List.{append-nil}
+use Rattle.ucd_points.specs.PlainProofs.{either, none_of}
 use Rattle.ucd_facts.specs.Composites.{first_has_class_zero, is_canonical, primary}
 use Rattle.ucd_facts.specs.Expansion.{counts, counted}
 use Rattle.ucd_facts.specs.Facts.{Facts, image_points, is_plain}
-use Rattle.ucd_model.specs.Forms.{appended, composed, in_order, nfkc}
-use Rattle.ucd_facts.specs.Uniform.{IsPlain}
 use Rattle.ucd_facts.specs.declared.decomposition.Kind.{Kind}
 use Rattle.ucd_facts.specs.declared.decomposition.Kind.TheVariants.{Plain, Canonical, Compat}
+use Rattle.ucd_model.specs.Forms.{appended, composed, in_order, nfkc}
+use Rattle.ucd_facts.specs.Uniform.{IsPlain}
 use Rattle.normalisation.specs.FormLemmas.{expansion_alone}
 use Rattle.stability_policies.specs.CaselessLists.{folding_of}
 use Rattle.stability_policies.specs.Policies.{caseless, folded, same_list}
-
-either : {A : Type 0} (b : Bool) (x : A) → (if b then x else x) ≡ x
-either true x = refl
-either false x = refl
 
 pub same_bytes : (s : List ℕ) → bytes_eq s s ≡ true
 same_bytes s = (bytes_eq-Decides s s).1 refl
@@ -57,11 +52,6 @@ plain_caseless O N c F G same old new plain_old plain_new is assigned =
     rw (before, after, was, is) refl
 
 -- ---- composites
-
-none_of : (a b c : Bool) → (a && (b && (false && c))) ≡ false
-none_of true true c = refl
-none_of true false c = refl
-none_of false b c = refl
 
 pub primary_unmapped : (F : ℕ → Facts) (c : ℕ) → (F c).mapping ≡ [] → primary F c ≡ false
 primary_unmapped F c none =

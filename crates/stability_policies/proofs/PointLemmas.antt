@@ -1,27 +1,8 @@
 -- Breaks of one policy, code point after code point.
-use Rattle.std.proofs.Common.{◌≡◌, ℕ, zero, suc, ◌+◌, ◌-◌, ◌<◌, ◌≤◌, Bool, true, false, cond, List, [], ◌∷◌, ◌++◌, map, filter, refl, sym, ap, ◌∙◌, arith}
+use Rattle.std.proofs.Common.{◌≡◌, ℕ, zero, suc, ◌+◌, ◌-◌, ◌<◌, ◌≤◌, Bool, true, false, cond, List, [], ◌∷◌, ◌++◌, map, filter, sym, ap, ◌∙◌, arith}
 use Rattle.std.specs.List.{range_with_len}
-use Rattle.std.proofs.lemmas.List.{append-nil, append_assoc, map-append, map-id}
-use Rattle.std.proofs.lemmas.List.FromFn.{filter_of_map_range_with_len_more, map-range_with_len_more}
-
-pub filter_more : (p : ℕ → Bool) (n : ℕ) → filter p (range_with_len 0 (n + 1)) ≡ filter p (range_with_len 0 n) ++ cond (p n) (n ∷ []) []
-filter_more p n =
-    ap (filter p) (sym (map-id (range_with_len 0 (n + 1)))) ∙ filter_of_map_range_with_len_more p (λ k. k) 0 n n (omega arith)
-    ∙ ap (λ (xs : List ℕ). filter p xs ++ cond (p n) (n ∷ []) []) (map-id (range_with_len 0 n))
-
-range_more : (a n : ℕ) → range_with_len a (n + 1) ≡ range_with_len a n ++ (a + n) ∷ []
-range_more a n =
-    sym (map-id (range_with_len a (n + 1))) ∙ map-range_with_len_more (λ k. k) a n (a + n) refl
-    ∙ ap (λ (xs : List ℕ). xs ++ (a + n) ∷ []) (map-id (range_with_len a n))
-
-filter_none : (p : ℕ → Bool) (n k : ℕ) → ((c : ℕ) → n ≤ c → c < n + k → p c ≡ false) → filter p (range_with_len 0 (n + k)) ≡ filter p (range_with_len 0 n)
-filter_none p n zero h = let end : n + zero ≡ n = omega arith in ap (λ m. filter p (range_with_len 0 m)) end
-filter_none p n (suc k) h =
-    let end : n + suc k ≡ n + k + 1 = omega arith in
-    ap (λ m. filter p (range_with_len 0 m)) end ∙ filter_more p (n + k)
-    ∙ ap (λ t. filter p (range_with_len 0 (n + k)) ++ cond t ((n + k) ∷ []) []) (h (n + k) (omega arith) (omega arith))
-    ∙ append-nil (filter p (range_with_len 0 (n + k)))
-    ∙ filter_none p n k (λ c from lt. h c from (omega (arith, lt)))
+use Rattle.std.proofs.lemmas.List.{append-nil, append_assoc, map-append}
+use Rattle.ucd_points.specs.PlainProofs.{range_more, filter_more, filter_none}
 
 filter_all : (p : ℕ → Bool) (n k : ℕ) → ((c : ℕ) → n ≤ c → c < n + k → p c ≡ true) → filter p (range_with_len 0 (n + k)) ≡ filter p (range_with_len 0 n) ++ range_with_len n k
 filter_all p n zero h =

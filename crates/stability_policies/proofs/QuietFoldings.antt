@@ -1,6 +1,5 @@
 -- Where forms stay, and the folding of each code point, foldings under NFKC stay too.
-use Rattle.std.proofs.Common.{◌≡◌, ℕ, ◌<◌, Bool, true, false, ◌&&◌, ◌||◌, not, [], ◌∷◌, List, Result, Ok, Err, refl, ap, subst, sym}
-use Rattle.std.specs.Str.{bytes_eq}
+use Rattle.std.proofs.Common.{◌≡◌, ℕ, ◌<◌, Bool, true, false, ◌&&◌, ◌||◌, not, [], ◌∷◌, List, Result, Ok, Err, refl, ap, subst, sym, bytes_eq}
 use Rattle.std.proofs.lemmas.Slice.Eq.{bytes_eq-Decides}
 use Rattle.release_rows.specs.Releases.{ReleaseItems, rows_now}
 use Rattle.ucd_model.specs.Casing.{fold_of}

@@ -1,7 +1,7 @@
 -- A report, policy after policy and row after row.
-use Rattle.std.proofs.Common.{◌≡◌, ◌≢◌, ℕ, ◌+◌, ◌<◌, ◌≤◌, Bool, true, false, cond, not, ◌||◌, List, [], ◌∷◌, ◌++◌, length, take, map, filter, refl, sym, ap, subst, ◌∙◌}
+use Rattle.std.proofs.Common.{◌≡◌, ◌≢◌, ℕ, ◌≤◌, Bool, true, false, cond, not, List, [], ◌∷◌, ◌++◌, length, take, map, filter, refl, sym, ap, subst, ◌∙◌, append_assoc, take_all}
 use Rattle.std.specs.List.{flat_map, list_any}
-use Rattle.std.proofs.lemmas.List.{append_assoc, take_all}
+use Rattle.ucd_points.specs.PlainProofs.{any_map}
 use Rattle.release_rows.specs.Releases.{ReleaseItems, rows_now}
 use Rattle.ucd_facts.specs.Facts.{Facts, facts}
 use Rattle.ucd_points.specs.Limits.{point_count}
@@ -22,10 +22,6 @@ pub flat_all : {X Y : Type 0} (f : X → List Y) (now : List Y) (xs : List X) (i
 flat_all f now xs i le so_far = so_far ∙ ap (flat_map f) (take_all i xs le)
 
 -- ---- rows of alias files
-
-any_map : {X Y : Type 0} (p : Y → Bool) (f : X → Y) (xs : List X) → list_any p (map f xs) ≡ list_any (λ x. p (f x)) xs
-any_map p f [] = refl
-any_map p f (x ∷ xs) = ap (λ r. p (f x) || r) (any_map p f xs)
 
 module _ (file : SourceFile) (new : List (ℕ × Row)) where
   lost_by : (r : ℕ × Row) (rest : List (ℕ × Row)) (b : Bool) → map (λ (s : ℕ × Row). Alias file s.0) (cond b (r ∷ filter (λ s. is_lost file new s.1) rest) (filter (λ s. is_lost file new s.1) rest))

@@ -1,38 +1,34 @@
 -- The forms of code points that were assigned stay.
-use Rattle.std.proofs.Common.{◌≡◌, ℕ, zero, suc, Bool, true, false, ◌==◌, nat_lt, if◌then◌else◌, List, [], ◌∷◌, ◌++◌, length, find, Option, Some, None, Result, Ok, Err, refl, sym, ap, subst, ◌∙◌, arith}
-use Rattle.std.specs.List.{AllByRecursion as Each, range_with_len}
-use Rattle.std.proofs.lemmas.Bool.{and_from, and_parts, eqb-true, true≢false}
-use Rattle.std.proofs.lemmas.List.{append-nil}
+use Rattle.std.proofs.Common.{◌≡◌, ℕ, zero, suc, Bool, true, false, nat_lt, if◌then◌else◌, List, [], ◌∷◌, ◌++◌, length, find, Option, Some, None, Result, Ok, Err, refl, sym, ap, subst, ◌∙◌, arith, append-nil}
+use Rattle.std.specs.List.{AllByRecursion as Each, range_with_len, All}
+use Rattle.std.proofs.lemmas.Bool.{and_from, and_parts, true≢false}
 use Rattle.std.proofs.lemmas.List.Elements.{All-head, All-tail}
-use Rattle.std.specs.List.{All}
 use Rattle.std.proofs.lemmas.Slice.Eq.{bytes_eq-Decides}
 use Rattle.std.specs.Cmp.{both_ways}
 use Rattle.std.proofs.lemmas.Option.{same_Some}
 use mathlib.Core.Path.{fun_ext}
+use Rattle.normalisation.specs.ExpandedLemmas.{ok_same}
 use Rattle.ucd_model.specs.CanonicalOrder.{class_of, order}
 use Rattle.ucd_model.specs.Casing.{fold, fold_of}
 use Rattle.ucd_facts.specs.Composites.{composes, is_pair, pair_of, primary}
 use Rattle.ucd_model.specs.Composition.{Split, compose, compose_onto, composed_with, reached, with_composite, with_point}
 use Rattle.ucd_facts.specs.Expansion.{alone_or_joined, both, counted, counts, expand, expansion, full, joined, judged}
 use Rattle.ucd_facts.specs.Facts.{Facts}
+use Rattle.ucd_facts.specs.declared.decomposition.Kind.{Kind}
+use Rattle.ucd_facts.specs.declared.decomposition.Kind.TheVariants.{Plain, Canonical, Compat}
 use Rattle.ucd_model.specs.Forms.{appended, composed, decomposed, expansions, in_order, nfkc}
 use Rattle.ucd_model.specs.MemberProofs.{Cut, Each-append, Each-if, Each-order, Each-to, order_same, point_each, reached_parts, reached_same}
 use Rattle.ucd_points.specs.Limits.{point_count}
-use Rattle.ucd_facts.specs.declared.decomposition.Kind.{Kind}
-use Rattle.ucd_facts.specs.declared.decomposition.Kind.TheVariants.{Plain, Canonical, Compat}
 use Rattle.ucd_facts.specs.declared.form.Bad.{Bad as Rule}
 use Rattle.ucd_facts.specs.declared.form.Bad.TheVariants.{V3}
 use Rattle.normalisation.specs.FormLaws.{HaveExpansions}
 use Rattle.normalisation.specs.FormProofs.{nfkc_of_members}
 use Rattle.ucd_facts.specs.CompositeLaws.{IsPair}
-use Rattle.ucd_facts.specs.CompositeProofs.{pair_is_least}
+use Rattle.ucd_facts.specs.CompositeProofs.{pair_is_least, pair_mapping}
 use Rattle.stability_policies.specs.Policies.{all_assigned, caseless, folded, same_list, sort_of}
 use Rattle.stability_policies.specs.StableForms.{CaselessStays, FoldsAlike, FormsStay, Old, SameForms, StaysNormal}
 
 -- ---- values
-
-ok_same : (xs ys : List ℕ) → (let x : Result (List ℕ) Rule = Ok xs in x ≡ Ok ys) → xs ≡ ys
-ok_same xs ys e = cc
 
 counts_sort : (compat : Bool) (k l : Kind) → sort_of k ≡ sort_of l → counts compat k ≡ counts compat l
 counts_sort compat Plain Plain e = refl
@@ -44,10 +40,6 @@ counts_sort compat Canonical (Compat t) e = let h : ◌≡◌ {A = ℕ} 1 2 = e 
 counts_sort compat (Compat s) Plain e = let h : ◌≡◌ {A = ℕ} 2 0 = e in absurd (omega (arith, h))
 counts_sort compat (Compat s) Canonical e = let h : ◌≡◌ {A = ℕ} 2 1 = e in absurd (omega (arith, h))
 counts_sort compat (Compat s) (Compat t) e = refl
-
-pair_is : (s y : ℕ) (m : List ℕ) → is_pair s y m ≡ true → m ≡ s ∷ y ∷ []
-pair_is s y (a ∷ b ∷ []) e = let parts = and_parts (a == s) (b == y) e in rw (eqb-true a s parts.0, eqb-true b y parts.1) refl
-pair_is s y _ e = cc
 
 -- the pair of two code points is a primary composite
 primary_of_pair : (F : ℕ → Facts) (s y q : ℕ) → pair_of F s y ≡ Some q → primary F q ≡ true
@@ -162,7 +154,7 @@ module _ (O N : ℕ → Facts) (stays : StaysNormal O N) where
       and_from (primary O q) (is_pair s y (O q).mapping) is (ap (is_pair s y) (stays.mapping q kept.0) ∙ parts.1)
   composes_by s y q false first second is e =
       let parts = and_parts (primary N q) (is_pair s y (N q).mapping) e in
-      let mapping : (N q).mapping ≡ s ∷ y ∷ [] = pair_is s y (N q).mapping parts.1 in
+      let mapping : (N q).mapping ≡ s ∷ y ∷ [] = pair_mapping s y (N q).mapping parts.1 in
       let old : all_assigned O (s ∷ y ∷ []) ≡ true = rw (first, second) refl in
       absurd (true≢false (sym (ap (all_assigned O) mapping ∙ old) ∙ stays.composing q parts.0 is))
 

@@ -1,8 +1,8 @@
 -- Code points without a mapping whose other facts are the same break the same policies.
-use Rattle.std.proofs.Common.{◌≡◌, ℕ, Bool, true, false, ◌&&◌, ◌||◌, not, ◌==◌, ◌<◌, ◌≤◌, [], ◌∷◌, Ok, refl, sym, ap, ◌∙◌, arith, inl, inr}
-use Rattle.std.specs.Str.{bytes_eq}
+use Rattle.std.proofs.Common.{◌≡◌, ℕ, Bool, true, false, ◌&&◌, ◌||◌, not, ◌==◌, ◌<◌, ◌≤◌, [], ◌∷◌, Ok, refl, sym, ap, ◌∙◌, arith, inl, inr, bytes_eq}
 use Rattle.std.proofs.lemmas.Bool.{cases_lt, eq-eqb}
 use Rattle.std.proofs.Math.Bool.{and-false, or-true}
+use Rattle.ucd_points.specs.PlainProofs.{and_self}
 use Rattle.ucd_model.specs.Casing.{where_form}
 use Rattle.ucd_facts.specs.Composites.{primary}
 use Rattle.ucd_facts.specs.Facts.{Facts, image_points}
@@ -15,10 +15,6 @@ use Rattle.stability_policies.specs.StableForms.{all_kept, keeps_forms}
 use Rattle.stability_policies.specs.declared.policy.Policy.{Policy}
 use Rattle.stability_policies.specs.declared.policy.Policy.TheVariants.{P01, P02, P03, P04, P05, P06, P07, P08, P09, P10, P11, P12, P13, P14, P15, P16, P17, P18, P19, P20}
 use Rattle.stability_policies.proofs.PlainLemmas.{caseless_plain, nfkc_plain, primary_plain, same_bytes}
-
-and_self : (b : Bool) → (b && (b && true)) ≡ b
-and_self true = refl
-and_self false = refl
 
 abbrev keeps_folding : (ℕ → Facts) → (ℕ → Facts) → ℕ → Bool
 keeps_folding O N e = not (O e).assigned || bytes_eq (image_points e (O e).fold) (image_points e (N e).fold)

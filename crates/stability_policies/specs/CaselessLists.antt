@@ -1,10 +1,8 @@
 -- Lists folded under NFKC, as they are answered.
---
 -- where_list r      the list; None where a rule stands in its place
 -- same_where r s    both are there, and the same ones, or neither is
 -- folding_of c F    the full folding of the code point c, which has the facts F
-use Rattle.std.specs.Prelude.{ℕ, Bool, true, false, List, Option, Some, None, Result, Ok, Err}
-use Rattle.std.specs.Str.{bytes_eq}
+use Rattle.std.specs.Prelude.{ℕ, Bool, true, false, List, Option, Some, None, Result, Ok, Err, bytes_eq}
 use Rattle.ucd_facts.specs.Facts.{Facts, image_points}
 use Rattle.ucd_facts.specs.declared.form.Bad.{Bad as Rule}
 

@@ -1,5 +1,4 @@
 -- What a chain of releases keeps of the forms. UAX #15, section 3.
---
 -- KeepsAllForms old new       the old release is valid, and the new one breaks none of P01, P03, P04 and P05 against it
 -- StepsKeepForms old later    so does each step from the old release through the later ones, in order
 -- FormsStayThrough            then a list of code points that are assigned in the old release has the same four forms in it and in

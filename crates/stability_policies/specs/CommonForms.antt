@@ -1,5 +1,4 @@
 -- What an empty part of the report means.
---
 -- ListsNone P breaks    no break of the policy P is listed
 -- AllAssigned F s       each member of the list s is assigned
 -- KeepsForms breaks     nothing of P01, P03, P04 and P05 is listed

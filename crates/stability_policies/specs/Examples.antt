@@ -1,16 +1,15 @@
 -- A code point that breaks each policy, and one that keeps it.
 --
 -- The facts are those of code points of real releases where the policy is kept; where it is broken, one of them is changed.
-use Rattle.std.proofs.Common.{◌≡◌, ℕ, true, false, ◌==◌, [], ◌∷◌, if◌then◌else◌, codes, refl}
-use Rattle.std.specs.Prelude.{Some, None}
+use Rattle.std.proofs.Common.{◌≡◌, ℕ, true, false, ◌==◌, [], ◌∷◌, if◌then◌else◌, codes, refl, Some, None}
 use Rattle.ucd_facts.specs.Expansion.{full}
 use Rattle.ucd_facts.specs.Facts.{Facts, unassigned}
-use Rattle.ucd_facts.specs.declared.category.Category.{Category}
-use Rattle.ucd_facts.specs.declared.category.Category.TheVariants.{Lu, Ll, Lo, Mn, Mc, Cc, Cs, Co, Po, Zs}
 use Rattle.ucd_facts.specs.declared.decomposition.Kind.{Kind}
 use Rattle.ucd_facts.specs.declared.decomposition.Kind.TheVariants.{Canonical, Compat}
-use Rattle.ucd_facts.specs.declared.decomposition.Tag.TheVariants as tag
 use Rattle.ucd_facts.specs.declared.image.Image.TheVariants.{To}
+use Rattle.ucd_facts.specs.declared.category.Category.{Category}
+use Rattle.ucd_facts.specs.declared.category.Category.TheVariants.{Lu, Ll, Lo, Mn, Mc, Cc, Cs, Co, Po, Zs}
+use Rattle.ucd_facts.specs.declared.decomposition.Tag.TheVariants as tag
 use Rattle.ucd_facts.specs.declared.property.Flag.{Flag}
 use Rattle.ucd_facts.specs.declared.property.Flag.TheVariants.{NoncharacterCodePoint, PatternSyntax, PatternWhiteSpace}
 use Rattle.ucd_facts.specs.Sets.{flag_place}

@@ -1,5 +1,4 @@
 -- Code points of which a new release says what an old one says.
---
 -- IsKept c G H P Q   of the point c the old release has the facts G and the core properties P, and the new one H and Q: the row and
 --                    the properties are the same, and neither has a decomposition mapping or a mapping to lower case
 use Rattle.std.specs.Prelude.{◌≡◌, ℕ, Bool, []}

@@ -1,5 +1,4 @@
 -- Where the names of rows stand.
---
 -- has_name rows name p            the name is among those of the row at p; false past the last row
 -- has_names rows names p          all of these names are
 -- IsNext p start found            `found` is the least number at or above start that passes p; None if none passes
@@ -10,14 +9,12 @@
 -- is_at name p entry              the entry is of this name, and of the row at p
 -- entry_cmp a b                   the order of entries, by the bytes of the name and then by the place of the row
 -- AreNames rows entries           the entries are the names of the rows, in order
-use Rattle.std.specs.Prelude.{◌≡◌, ◌⊎◌, ℕ, ◌<◌, ◌≤◌, Bool, true, false, ◌&&◌, ◌==◌, List, [], Option, MatchOption, Result, Ok, Err}
+use Rattle.std.specs.Prelude.{◌≡◌, ◌⊎◌, ℕ, ◌<◌, ◌≤◌, Bool, true, false, ◌&&◌, ◌==◌, List, [], Option, MatchOption, Result, Ok, Err, IsSorted, bytes_eq}
 use Rattle.std.specs.Borrow.{Bor}
 use Rattle.std.specs.Cmp.Lexicographic.{slice_cmp}
 use Rattle.std.specs.List.{list_all, list_any, slice_index_or}
-use Rattle.std.specs.List.Sorted.{IsSorted}
 use Rattle.std.specs.Ordering.{nat_cmp, ordering_then}
 use Rattle.std.specs.declared.cmp.Ordering.{Ordering}
-use Rattle.std.specs.Str.{bytes_eq}
 
 abbrev pub has_name : List (List (List ℕ)) → List ℕ → ℕ → Bool
 has_name rows name p = list_any (bytes_eq name) (slice_index_or rows p [])

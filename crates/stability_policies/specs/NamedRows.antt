@@ -1,5 +1,4 @@
 -- The names of rows of UnicodeData.txt, in the order of the file.
---
 -- named_in row          the code points and the name of a row of UnicodeData.txt, as the one item of a list; no item for other rows
 -- named rows            those of all rows
 -- name_at list c        the name of the first row that covers c; None where none does
@@ -19,8 +18,7 @@
 -- begins_first x y      the row x does not begin behind the row y; true where one of the two is no row of UnicodeData.txt
 -- KeepsStep x y step    the row that a step takes alone does not begin behind the other one
 -- olds step, news step   how many rows of each release a step takes
-use Rattle.std.specs.Prelude.{◌≡◌, ◌≤◌, ◌+◌, ℕ, Bool, true, false, nat_le, if◌then◌else◌, List, [], ◌∷◌, ◌++◌, Option, Some, None}
-use Rattle.std.specs.List.{flat_map}
+use Rattle.std.specs.Prelude.{◌≡◌, ◌≤◌, ◌+◌, ℕ, Bool, true, false, nat_le, if◌then◌else◌, List, [], ◌∷◌, ◌++◌, Option, Some, None, flat_map}
 use Rattle.ucd_facts.specs.Facts.{within}
 use Rattle.ucd_facts.specs.declared.row.Row.{Row}
 use Rattle.ucd_facts.specs.declared.row.Row.TheVariants.{Unit as DataLine}

@@ -15,27 +15,25 @@
 -- second_maps F m          the mapping m has two members, and the second has a canonical mapping
 -- is_mark F                a category of marks: Mn, Mc or Me
 -- breaks P O N c           c breaks the policy P; never for P02 and P17, which are of rows
---
 -- name_of row              the name of a row of UnicodeData.txt, or the label of a range; None where there is no row
 -- differ a b               both are there, and they differ
 -- is_renamed old new       there are both rows, and their names differ
 -- is_broken P old new c    c breaks the policy P, where old and new are the rows of the two releases; never for P17, which is of rows
 --                          of alias files
-use Rattle.std.specs.Prelude.{ℕ, Bool, true, false, ◌&&◌, ◌||◌, not, List, [], ◌∷◌, ◌==◌, Option, Some, None, Result, Ok, Err}
+use Rattle.std.specs.Prelude.{ℕ, Bool, true, false, ◌&&◌, ◌||◌, not, List, [], ◌∷◌, ◌==◌, Option, Some, None, Result, Ok, Err, bytes_eq}
 use Rattle.std.specs.Bool.{beq}
 use Rattle.std.specs.List.{list_all}
-use Rattle.std.specs.Str.{bytes_eq}
 use Rattle.ucd_model.specs.CanonicalOrder.{class_of, order}
 use Rattle.ucd_model.specs.Casing.{fold}
 use Rattle.ucd_facts.specs.Composites.{is_canonical, primary}
 use Rattle.ucd_facts.specs.Facts.{Facts, Sources, data_row, facts}
+use Rattle.ucd_facts.specs.declared.decomposition.Kind.{Kind}
+use Rattle.ucd_facts.specs.declared.decomposition.Kind.TheVariants.{Plain, Canonical, Compat}
 use Rattle.ucd_model.specs.Forms.{nfkc}
 use Rattle.ucd_facts.specs.Predicates.{category_place, is_one_of}
 use Rattle.ucd_model.specs.Records.{core_at}
 use Rattle.ucd_facts.specs.declared.category.Category.{Category}
 use Rattle.ucd_facts.specs.declared.category.Category.TheVariants.{Cc, Cs, Co, Mn, Mc, Me}
-use Rattle.ucd_facts.specs.declared.decomposition.Kind.{Kind}
-use Rattle.ucd_facts.specs.declared.decomposition.Kind.TheVariants.{Plain, Canonical, Compat}
 use Rattle.ucd_points.specs.declared.files.SourceFile.TheVariants.{UnicodeData}
 use Rattle.ucd_facts.specs.declared.form.Bad.{Bad as Rule}
 use Rattle.ucd_facts.specs.declared.property.Core.TheVariants.{IdStart, IdContinue, XidStart, XidContinue}

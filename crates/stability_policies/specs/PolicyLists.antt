@@ -1,9 +1,7 @@
 -- The list of the policies.
---
 -- PoliciesAreWhole   the list has all policies, each once and at its place
 -- place_below        there are twenty places
-use Rattle.std.proofs.Common.{◌≡◌, ◌<◌, Some, refl, arith}
-use Rattle.std.specs.Prelude.{slice_get}
+use Rattle.std.proofs.Common.{◌≡◌, ◌<◌, Some, refl, arith, slice_get}
 use Rattle.ucd_facts.specs.Enumerations.{IsEnumeration}
 use Rattle.stability_policies.specs.Policies.{place_of_policy, policies}
 use Rattle.stability_policies.specs.declared.policy.Policy.{Policy}

@@ -1,5 +1,4 @@
 -- What an empty part of a report means, said of two releases and of their report. UAX #15, section 3.
---
 -- EmptyPartKeepsForms      if the old release is valid and the report lists nothing of P01, P03, P04 and P05, the four forms of a
 --                          list of code points that were assigned are the same in both releases
 -- EmptyPartKeepsCaseless   if it lists nothing of P10 either, so is the full folding of their Normalisation Form KC

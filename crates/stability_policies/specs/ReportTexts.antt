@@ -1,12 +1,9 @@
 -- The text of a report.
---
 -- policy_code P        the code of a policy: P01 to P20
 -- break_line b         the line of a break: the code of the policy, and the code point; of a break of P17 the path of the file below
 --                      the folder of a release, and the number of the line in the old file
 -- report_text breaks   a line for each break, and `# total N`
-use Rattle.std.specs.Prelude.{ℕ, List, ◌++◌, length, codes}
-use Rattle.std.specs.Fmt.{decimal}
-use Rattle.std.specs.List.{flat_map}
+use Rattle.std.specs.Prelude.{ℕ, List, ◌++◌, length, codes, decimal, flat_map}
 use Rattle.ucd_model.specs.DerivedText.{line_end}
 use Rattle.ucd_points.specs.HexText.{hex_text}
 use Rattle.ucd_points.specs.SourceFiles.{source_path}

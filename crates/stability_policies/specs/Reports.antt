@@ -1,5 +1,4 @@
 -- The report of all breaks of the stability policies.
---
 -- names_in row             the names of a row of an alias file; none of another row
 -- keeps_first file a b     in PropertyValueAliases.txt the first names of the two rows, which name the property, are the same; in
 --                          another file nothing is asked of them
@@ -10,9 +9,8 @@
 -- breaks_of P old new      the breaks of a policy, where old and new are the items of the two releases; those of P17 file by file
 -- report old new           all breaks, by policy
 -- is_of P b                b is a break of the policy P
-use Rattle.std.specs.Prelude.{ℕ, Bool, true, false, ◌&&◌, not, List, [], ◌∷◌, ◌++◌, ◌==◌, map, filter}
+use Rattle.std.specs.Prelude.{ℕ, Bool, true, false, ◌&&◌, not, List, [], ◌∷◌, ◌++◌, ◌==◌, map, filter, bytes_eq}
 use Rattle.std.specs.List.{flat_map, list_all, list_any, range_with_len}
-use Rattle.std.specs.Str.{bytes_eq}
 use Rattle.release_rows.specs.Releases.{ReleaseItems, items_now, rows_at, rows_now}
 use Rattle.ucd_points.specs.Limits.{point_count}
 use Rattle.ucd_points.specs.declared.files.SourceFile.{SourceFile}

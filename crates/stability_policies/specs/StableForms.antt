@@ -12,9 +12,8 @@
 --                     assigned, and each new one lies up to 10FFFF
 -- all_kept a b c d e  none of the four policies is broken, and e holds
 -- keeps_forms O N c   c breaks none of P01, P03, P04 and P05, and where it was assigned, its own full folding stays
-use Rattle.std.specs.Prelude.{◌≡◌, ◌<◌, ℕ, Bool, true, false, ◌&&◌, ◌||◌, not, [], ◌∷◌, List}
+use Rattle.std.specs.Prelude.{◌≡◌, ◌<◌, ℕ, Bool, true, false, ◌&&◌, ◌||◌, not, [], ◌∷◌, List, bytes_eq}
 use Rattle.std.specs.List.{AllByRecursion as Each}
-use Rattle.std.specs.Str.{bytes_eq}
 use Rattle.ucd_facts.specs.Composites.{primary}
 use Rattle.ucd_facts.specs.Facts.{Facts}
 use Rattle.ucd_model.specs.Forms.{nfd, nfc, nfkd, nfkc}

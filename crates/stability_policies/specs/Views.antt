@@ -1,5 +1,4 @@
 -- Views that belong to the rows of a release.
---
 -- Belongs F R release   the facts F are those of the rows now, and the records R are derived of them
 -- IsValid release       no code point breaks a rule of a valid release
 use Rattle.std.specs.Prelude.{◌≡◌, ℕ, None}

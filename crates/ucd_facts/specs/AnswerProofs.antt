@@ -1,15 +1,11 @@
 -- Proofs about the tests of questions.
---
 -- queries_are_told         the law of the same name
 -- same_query-equivalence   the test is an equivalence
-use Rattle.std.proofs.Common.{◌≡◌, ℕ, true, false, ◌==◌, refl, sym, ap}
-use Rattle.std.specs.Bool.{Decides}
+use Rattle.std.proofs.Common.{◌≡◌, ℕ, true, false, ◌==◌, refl, sym, ap, Decides, true≢false, eqb-true, eq-eqb}
 use Rattle.std.specs.Cmp.{IsEquivalence, both_ways}
-use Rattle.std.proofs.lemmas.Bool.{true≢false, eqb-true, eq-eqb}
 use Rattle.std.proofs.lemmas.Bool.Decides.{Decides-and, Decides-eqb}
-use Rattle.ucd_facts.specs.declared.query.Query.{Query}
 use Rattle.ucd_facts.specs.declared.query.Query.TheVariants.{Row, Pair, Second}
-use Rattle.ucd_facts.specs.Answers.{same_query, QueriesAreTold}
+use Rattle.ucd_facts.specs.Answers.{same_query, QueriesAreTold, Query}
 
 differ : {q r : Query} → (q ≡ r → ⊥) → Decides false (q ≡ r)
 differ never = (λ t. absurd (true≢false (sym t)), λ e. absurd (never e))

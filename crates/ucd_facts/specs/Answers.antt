@@ -8,14 +8,12 @@
 --                       mapping
 -- Each P xs             P holds of each of the xs
 -- TellsChanges F G Q    the questions Q are just those that F and G do not answer alike
---
 -- QueriesAreTold        `same_query` tells whether two questions are the same
-use Rattle.std.specs.Prelude.{◌≡◌, ℕ, Bool, true, false, ◌&&◌, ◌==◌, List, [], ◌∷◌, ⊤}
-use Rattle.std.specs.Bool.{Decides}
+use Rattle.std.specs.Prelude.{◌≡◌, ℕ, Bool, true, false, ◌&&◌, ◌==◌, List, [], ◌∷◌, ⊤, Decides}
 use Rattle.std.specs.List.{list_any}
 use Rattle.ucd_facts.specs.Composites.{pair_of, second_of}
 use Rattle.ucd_facts.specs.Facts.{Facts}
-use Rattle.ucd_facts.specs.declared.query.Query.{Query}
+pub use Rattle.ucd_facts.specs.declared.query.Query.{Query}
 use Rattle.ucd_facts.specs.declared.query.Query.TheVariants.{Row, Pair, Second}
 
 abbrev pub same_query : Query → Query → Bool

@@ -1,9 +1,7 @@
 -- The laws of primary composites. The Unicode Standard, section 3.11, D114.
---
 -- Composes F s y q   q is a primary composite with the mapping s y
 -- IsPair F s y r     r is the least such q; None, and there is none
 -- IsSecond F y       y is the second member of some primary composite's mapping
---
 -- PairIsLeast        the pair of s and y is the least primary composite with their mapping; None, and there is none
 -- PairIsOnly         and nothing else is: whatever is so is the pair of s and y
 -- SecondIsExact      y is told to be a second member exactly where it is that of some primary composite's mapping

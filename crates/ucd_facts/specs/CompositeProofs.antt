@@ -1,5 +1,4 @@
 -- Proofs of the laws of primary composites, over the points below a variable bound.
---
 -- pair_is_least, pair_is_only, second_is_exact   the laws of the same names
 -- Least p a b r     r is the least number from a on and below b that passes the test p; None, and none of them does
 -- find_least        what the search among n numbers from a on finds is the least of them
@@ -61,7 +60,7 @@ Least_only p a b (Some q) (Some q') l m =
 
 -- ---- tests on mappings
 
-pair_mapping : (s y : ℕ) (m : List ℕ) → is_pair s y m ≡ true → m ≡ s ∷ y ∷ []
+pub pair_mapping : (s y : ℕ) (m : List ℕ) → is_pair s y m ≡ true → m ≡ s ∷ y ∷ []
 pair_mapping s y (a ∷ b ∷ []) e =
     let t = and_parts (a == s) (b == y) e in
     let first : a ≡ s = eqb-true a s t.0 in

@@ -17,9 +17,7 @@
 use Rattle.std.specs.Prelude.{ℕ, Bool, true, false, ◌&&◌, not, List, [], ◌∷◌, Option, ◌==◌, find}
 use Rattle.std.specs.List.{list_any, range_with_len}
 use Rattle.ucd_points.specs.Limits.{point_count}
-use Rattle.ucd_facts.specs.Facts.{Facts}
-use Rattle.ucd_facts.specs.declared.decomposition.Kind.{Kind}
-use Rattle.ucd_facts.specs.declared.decomposition.Kind.TheVariants.{Canonical}
+use Rattle.ucd_facts.specs.Facts.{Facts, Kind, Canonical}
 
 abbrev pub is_canonical : Kind → Bool
 is_canonical Canonical = true

@@ -1,5 +1,4 @@
 -- Which lines of UnicodeData.txt stand for which rows. UAX #44, section 5.3, table 9.
---
 -- SpellsDecomposition bs kind cs   field 5: no bytes; a mapping of one or two code points; or a tag and, with white space between
 --                                  or not, a mapping of one or more. UAX #44, section 5.7.3
 -- kept_of fs                       fields 4 and 6 to 11, which are kept as they stand; no bytes for a field that is not there

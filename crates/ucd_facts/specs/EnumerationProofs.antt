@@ -1,5 +1,4 @@
 -- Each list of Enumerations.antt is whole, and what is true of the list is true of each value.
---
 -- enumerations_are_whole   the law of the same name
 -- enumerates_categories .. enumerates_rules   its parts
 -- kinds_behind             behind Plain and Canonical stand the kinds with a tag, in the order of the tags
@@ -11,23 +10,19 @@
 -- value-at                 the value that stands at a value's place is that value, whatever stands for a place past the list
 -- are_apart text values place   a test: the text of each value stands first at its place among the texts of the values
 -- text-injective           then two values with one text are one
-use Rattle.std.proofs.Common.{◌≡◌, ℕ, zero, suc, ◌+◌, ◌-◌, ◌<◌, ◌≤◌, Bool, true, ◌==◌, List, [], ◌∷◌, map, length, get_or, slice_get, Some, refl, sym, ap, ◌∙◌, arith}
+use Rattle.std.proofs.Common.{◌≡◌, ℕ, zero, suc, ◌+◌, ◌-◌, ◌<◌, ◌≤◌, Bool, true, ◌==◌, List, [], ◌∷◌, map, length, get_or, slice_get, Some, refl, sym, ap, ◌∙◌, arith, option_map, bytes_eq, Decides}
 use Rattle.std.specs.List.{list_all, position_or_len}
-use Rattle.std.specs.Option.{option_map}
-use Rattle.std.specs.Str.{bytes_eq}
-use Rattle.std.specs.Bool.{Decides}
 use Rattle.std.proofs.lemmas.Bool.{and_parts, eqb-true, eq-eqb}
 use Rattle.std.proofs.lemmas.List.FromFn.{get_or-range_with_len}
 use Rattle.std.proofs.Math.ListN.{get_or-map}
 use Rattle.std.proofs.lemmas.Option.{get_or_from_slice_get, slice_get-get_or, slice_get-map, same_Some}
 use Rattle.ucd_facts.specs.Enumerations.{derived_files, IsEnumeration, EnumerationsAreWhole, categories, statuses, tags, place_of_tag, kinds, place_of_kind, flags, place_of_derived, foldings, place_of_folding, forms, place_of_form, quick_values, place_of_quick, rules, place_of_rule}
-use Rattle.ucd_facts.specs.Facts.{status_place}
+use Rattle.ucd_facts.specs.Facts.{status_place, Kind}
 use Rattle.ucd_facts.specs.Predicates.{category_place, core_properties}
 use Rattle.ucd_facts.specs.Sets.{flag_place, core_place}
 use Rattle.ucd_points.specs.SourceFiles.{source_files, file_place, file_place_small, file_at-place}
 use Rattle.ucd_facts.specs.declared.category.Category.{Category}
 use Rattle.ucd_facts.specs.declared.category.Category.TheVariants.{Lu}
-use Rattle.ucd_facts.specs.declared.decomposition.Kind.{Kind}
 use Rattle.ucd_facts.specs.declared.decomposition.Kind.TheVariants as kind
 use Rattle.ucd_facts.specs.declared.decomposition.Tag.{Tag}
 use Rattle.ucd_facts.specs.declared.decomposition.Tag.TheVariants.{Font, Compat}

@@ -1,5 +1,4 @@
 -- The values of each enumeration, in order, and the place of each value in its list, counted from 0. Names.antt has their names.
---
 -- IsEnumeration values place   each value stands in the list at its place, and the list has each of them once, in order of
 --                      their places
 -- categories           the categories, in the order of UAX #44, section 5.7.1, table 12, with Cn last
@@ -16,17 +15,15 @@
 --
 -- Elsewhere: category_place and core_properties (Predicates), status_place (Facts), flag_place and core_place (Sets),
 -- source_files and file_place (SourceFiles).
---
 -- EnumerationsAreWhole   each list has all values of its enumeration, each at its place
 use Rattle.std.specs.Prelude.{◌≡◌, ℕ, ◌+◌, List, [], ◌∷◌, Some, map, length, slice_get}
 use Rattle.std.specs.List.{range_with_len}
-use Rattle.ucd_facts.specs.Facts.{status_place}
+use Rattle.ucd_facts.specs.Facts.{status_place, Kind}
 use Rattle.ucd_facts.specs.Predicates.{category_place, core_properties}
 use Rattle.ucd_facts.specs.Sets.{flag_place, core_place}
 use Rattle.ucd_points.specs.SourceFiles.{source_files, file_place}
 use Rattle.ucd_facts.specs.declared.category.Category.{Category}
 use Rattle.ucd_facts.specs.declared.category.Category.TheVariants.{Lu, Ll, Lt, Lm, Lo, Mn, Mc, Me, Nd, Nl, No, Pc, Pd, Ps, Pe, Pi, Pf, Po, Sm, Sc, Sk, So, Zs, Zl, Zp, Cc, Cf, Cs, Co, Cn}
-use Rattle.ucd_facts.specs.declared.decomposition.Kind.{Kind}
 use Rattle.ucd_facts.specs.declared.decomposition.Kind.TheVariants as kind
 use Rattle.ucd_facts.specs.declared.decomposition.Tag.{Tag}
 use Rattle.ucd_facts.specs.declared.decomposition.Tag.TheVariants.{Font, NoBreak, Initial, Medial, Final, Isolated, Circle, Super, Sub, Vertical, Wide, Narrow, Small, Square, Fraction, Compat}

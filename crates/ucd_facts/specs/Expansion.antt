@@ -14,11 +14,9 @@
 -- expansion F compat c    the full expansion of c, or the rule that c breaks
 -- rule_of stop            the rule that a code point breaks; None if memory ran out
 -- FormAnswers r value     r is the value, or the rule in its place; no claim if memory ran out
-use Rattle.std.specs.Prelude.{◌≡◌, ℕ, zero, suc, Bool, true, false, List, [], ◌∷◌, ◌++◌, length, nat_lt, Option, Some, None, Result, Ok, Err, if◌then◌else◌}
+use Rattle.std.specs.Prelude.{ℕ, zero, suc, Bool, true, false, List, [], ◌∷◌, ◌++◌, length, nat_lt, Option, Some, None, Result, Ok, Err, if◌then◌else◌}
 use Rattle.ucd_points.specs.Answers.{AnswersBy}
-use Rattle.ucd_facts.specs.Facts.{Facts}
-use Rattle.ucd_facts.specs.declared.decomposition.Kind.{Kind}
-use Rattle.ucd_facts.specs.declared.decomposition.Kind.TheVariants.{Plain, Canonical, Compat}
+use Rattle.ucd_facts.specs.Facts.{Facts, Kind, Plain, Canonical, Compat}
 use Rattle.ucd_facts.specs.declared.form.Bad.{Bad as Rule}
 use Rattle.ucd_facts.specs.declared.form.Bad.TheVariants.{V2, V3}
 use Rattle.ucd_facts.specs.declared.form.FormStop.{FormStop}

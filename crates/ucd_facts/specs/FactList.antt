@@ -1,5 +1,4 @@
 -- Facts that are kept in a list.
---
 -- kept_facts k                  the facts that a value keeps
 -- facts_or_unassigned c entry   the facts of the entry that was found; where there is none, those of c without a row
 -- facts_in entries c            the facts of c: those of the first entry of c, and without one those of no row

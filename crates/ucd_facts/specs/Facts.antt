@@ -1,6 +1,5 @@
 -- The facts of a code point, found by looking through the plain list of rows. UAX #44, sections 5.3, 5.6 and 5.7;
 -- The Unicode Standard, sections 3.12 (Hangul) and 5.18 (case mappings).
---
 -- Sources                          the rows of a release, file by file
 -- Facts                            what is known of one code point: its category, class and mapping, its images, its properties
 --                                  of PropList.txt, and whether it is assigned, a mid-word point, and excluded from composition
@@ -58,9 +57,8 @@
 -- flag_at rows f c                 whether some row of PropList.txt with exactly the name of f covers c
 -- excludes c row                   a row of CompositionExclusions.txt that covers c
 -- excluded_at rows c               whether some row of CompositionExclusions.txt covers c
-use Rattle.std.specs.Prelude.{ℕ, ◌+◌, ◌-◌, ◌/◌, ◌%◌, Bool, true, false, ◌&&◌, List, [], ◌∷◌, Option, Some, None, is_some, unwrap_or, nat_lt, nat_le, ◌==◌, if◌then◌else◌, find}
+use Rattle.std.specs.Prelude.{ℕ, ◌+◌, ◌-◌, ◌/◌, ◌%◌, Bool, true, false, ◌&&◌, List, [], ◌∷◌, Option, Some, None, is_some, unwrap_or, nat_lt, nat_le, ◌==◌, if◌then◌else◌, find, bytes_eq}
 use Rattle.std.specs.List.{list_any}
-use Rattle.std.specs.Str.{bytes_eq}
 pub use Rattle.ucd_points.specs.Bounds.{within}
 use Rattle.ucd_points.specs.Bounds.{Bounds}
 use Rattle.ucd_points.specs.Limits.{point_count}
@@ -68,11 +66,11 @@ use Rattle.ucd_facts.specs.Names.{flag_name}
 use Rattle.ucd_facts.specs.Values.{mid_word_at}
 use Rattle.ucd_facts.specs.declared.category.Category.{Category}
 use Rattle.ucd_facts.specs.declared.category.Category.TheVariants.{Cn}
-use Rattle.ucd_facts.specs.declared.decomposition.Kind.{Kind}
-use Rattle.ucd_facts.specs.declared.decomposition.Kind.TheVariants.{Plain, Canonical}
+pub use Rattle.ucd_facts.specs.declared.decomposition.Kind.{Kind}
+pub use Rattle.ucd_facts.specs.declared.decomposition.Kind.TheVariants.{Plain, Canonical, Compat}
 use Rattle.ucd_facts.specs.declared.property.Flag.{Flag}
-use Rattle.ucd_facts.specs.declared.image.Image.{Image}
-use Rattle.ucd_facts.specs.declared.image.Image.TheVariants.{Same, To}
+pub use Rattle.ucd_facts.specs.declared.image.Image.{Image}
+pub use Rattle.ucd_facts.specs.declared.image.Image.TheVariants.{Same, To}
 use Rattle.ucd_points.specs.declared.files.SourceFile.{SourceFile}
 use Rattle.ucd_points.specs.declared.files.SourceFile.TheVariants.{UnicodeData, PropList, WordBreakProperty, CompositionExclusions, CaseFolding, SpecialCasing}
 use Rattle.ucd_facts.specs.declared.row.DataRow.{DataRow}

@@ -1,8 +1,6 @@
 -- The laws of the facts of code points.
---
 -- IsLV l v c           c is the Hangul syllable of the leading consonant l and the vowel v. The Unicode Standard, section 3.12
 -- IsLVT lv t c         c is the syllable of the syllable lv, which has no ending, and the ending t
---
 -- ImageIsSame          an image is Same exactly where a code point is mapped to itself alone
 -- ImageIsOther         and else it holds what the code point is mapped to
 -- HangulComposesBack   the mapping of a Hangul syllable composes to the syllable: it is its consonant and vowel, or the syllable
@@ -10,8 +8,7 @@
 -- FactsAreCut          a number past the code points has the facts of a code point without a row
 use Rattle.std.specs.Prelude.{◌≡◌, ℕ, ◌+◌, ◌-◌, ◌*◌, ◌%◌, ◌<◌, ◌≤◌, List, [], ◌∷◌, ◌↔◌, ◌⊎◌, true}
 use Rattle.ucd_points.specs.Limits.{point_count}
-use Rattle.ucd_facts.specs.Facts.{Sources, facts, unassigned, image, is_hangul_syllable, hangul_mapping}
-use Rattle.ucd_facts.specs.declared.image.Image.TheVariants.{Same, To}
+use Rattle.ucd_facts.specs.Facts.{Sources, facts, unassigned, image, is_hangul_syllable, hangul_mapping, Same, To}
 
 abbrev pub ImageIsSame : Type 0
 ImageIsSame = (c : ℕ) (points : List ℕ) → (image c points ≡ Same) ↔ (points ≡ c ∷ [])

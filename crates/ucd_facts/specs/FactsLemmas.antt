@@ -1,18 +1,16 @@
 -- The facts of a code point and those of a number past them, and proofs of the laws of facts.
---
 -- facts_inside    the facts of a code point are those that the rows give
 -- facts_outside   those of a number past them are those of no row: the law FactsAreCut
+-- judged_some     a list that breaks no rule is the list that is there
 -- image_is_same, image_is_other, hangul_composes_back   the laws of the same names
-use Rattle.std.proofs.Common.{◌≡◌, ℕ, ◌+◌, ◌-◌, ◌*◌, ◌/◌, ◌%◌, ◌<◌, ◌≤◌, Bool, true, false, ◌==◌, nat_lt, List, [], ◌∷◌, refl, ap, arith, inl, inr, ◌⊎◌}
-use Rattle.std.specs.Prelude.{if◌then◌else◌}
-use Rattle.std.specs.Str.{bytes_eq}
-use Rattle.std.proofs.lemmas.Bool.{lt-ltb, le-ltb, eqb-true}
+use Rattle.std.proofs.Common.{◌≡◌, ℕ, ◌+◌, ◌-◌, ◌*◌, ◌/◌, ◌%◌, ◌<◌, ◌≤◌, Bool, true, false, ◌==◌, nat_lt, List, [], ◌∷◌, refl, ap, arith, inl, inr, ◌⊎◌, if◌then◌else◌, bytes_eq, lt-ltb, le-ltb, eqb-true, Option, None, Some, Ok, Err, cond, length}
 use Rattle.std.proofs.lemmas.Slice.Eq.{bytes_eq-Decides}
 use Rattle.std.proofs.lemmas.Bool.Decides.{nat_tests}
+use Rattle.ucd_facts.specs.declared.form.Bad.TheVariants.{V3}
+use Rattle.ucd_facts.specs.Expansion.{judged}
 use Rattle.ucd_points.specs.Limits.{point_count}
-use Rattle.ucd_facts.specs.Facts.{Sources, facts, given, is_hangul_syllable, hangul_mapping}
+use Rattle.ucd_facts.specs.Facts.{Sources, facts, given, is_hangul_syllable, hangul_mapping, Same, To}
 use Rattle.ucd_facts.specs.FactsLaws.{ImageIsSame, ImageIsOther, IsLV, IsLVT, HangulComposesBack, FactsAreCut}
-use Rattle.ucd_facts.specs.declared.image.Image.TheVariants.{Same, To}
 
 pub facts_inside : (rows : Sources) (c : ℕ) → c < point_count → facts rows c ≡ given rows c
 unfolding facts
@@ -76,3 +74,13 @@ hangul_composes_back c is =
       | false ↦ λ e. inr (of_syllable_and_ending c bounds.0 bounds.1 e)
     ] in
     by ((c - 0xAC00) % 28 == 0) refl
+
+-- ---- expansions
+
+pub judged_some : (r : Option (List ℕ)) (xs : List ℕ) → judged r ≡ Ok xs → r ≡ Some xs
+judged_some None xs e = cc
+judged_some (Some ys) xs e = by (nat_lt 64 (length ys)) e
+  where
+    by : (b : Bool) → cond b (Err V3) (Ok ys) ≡ Ok xs → ◌≡◌ {A = Option (List ℕ)} (Some ys) (Some xs)
+    by true e = cc
+    by false e = cc

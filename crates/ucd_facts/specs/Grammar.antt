@@ -1,5 +1,4 @@
 -- Which bytes stand for which rows. UAX #44, sections 4.2 and 5.3.
---
 -- ReadsLine file content row   a line's content stands for the row, by the fields of the line; never for a row of another file's
 --                              kind. A line `# @missing:` of Scripts.txt and WordBreakProperty.txt stands for a missing row
 -- ReadsRange bytes row         two lines of UnicodeData.txt, LF or CR LF between them, stand for a range

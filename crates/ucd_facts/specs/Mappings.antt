@@ -1,5 +1,4 @@
 -- Mappings: code points separated by white space. UAX #44, section 4.2.
---
 -- is_some_bytes bs      there is a byte
 -- words bs              what stands between white space, in order
 -- SpellsMapping bs cs   the words of bs spell the code points cs, one by one, at most 64; no words spell the empty mapping. The

@@ -1,20 +1,17 @@
 -- Proofs of the laws of names. No word but those of the laws is defined here for others.
---
 -- categories_are_spelled, statuses_are_spelled, tag_texts_are_names, names_tell_values   the laws of the same names
-use Rattle.std.proofs.Common.{◌≡◌, ◌≢◌, ℕ, ◌≤◌, Bool, true, false, ◌&&◌, ◌||◌, not, ◌==◌, if◌then◌else◌, List, [], ◌∷◌, ◌++◌, Option, Some, None, refl, sym, ap, ◌∙◌, ◌⊎◌, inl, inr, codes}
+use Rattle.std.proofs.Common.{◌≡◌, ◌≢◌, ℕ, Bool, true, false, ◌&&◌, not, ◌==◌, if◌then◌else◌, List, [], ◌∷◌, ◌++◌, Option, Some, None, refl, sym, ap, ◌∙◌, ◌⊎◌, inl, inr, codes, bytes_eq}
 use Rattle.std.specs.List.{list_all}
-use Rattle.std.specs.Str.{bytes_eq}
-use Rattle.std.proofs.lemmas.Bool.{true≢false, and_parts, or_cases, eqb-true, not-true}
+use Rattle.std.proofs.lemmas.Bool.{true≢false, and_parts, eqb-true, not-true}
 use Rattle.std.proofs.lemmas.Slice.Eq.{bytes_eq-Decides}
 use Rattle.std.proofs.lemmas.Option.{same_Some}
 use Rattle.ucd_facts.specs.Names.{category_of, category_code, status_of, status_code, tag_text, tag_name, flag_name, core_name, derived_path}
-use Rattle.ucd_points.specs.SourceFiles.{source_path}
+use Rattle.ucd_points.specs.SourceFiles.{source_path, source_files, file_place}
 use Rattle.ucd_facts.specs.Enumerations.{derived_files, categories, statuses, tags, place_of_tag, flags, place_of_derived}
 use Rattle.ucd_facts.specs.Facts.{status_place}
 use Rattle.ucd_facts.specs.Predicates.{category_place, core_properties}
 use Rattle.ucd_facts.specs.Sets.{flag_place, core_place}
-use Rattle.ucd_points.specs.SourceFiles.{source_files, file_place}
-use Rattle.ucd_facts.specs.EnumerationProofs.{enumerates_categories, enumerates_statuses, enumerates_tags, enumerates_flags, enumerates_core_properties, enumerates_source_files, enumerates_derived_files, true_of_each, place-injective, text-injective}
+use Rattle.ucd_facts.specs.EnumerationProofs.{enumerates_categories, enumerates_statuses, enumerates_tags, enumerates_flags, enumerates_core_properties, enumerates_source_files, enumerates_derived_files, true_of_each, text-injective}
 use Rattle.ucd_facts.specs.NameLaws.{CategoriesAreSpelled, StatusesAreSpelled, TagTextsAreNames, NamesTellValues}
 use Rattle.ucd_facts.specs.declared.category.Category.{Category}
 use Rattle.ucd_facts.specs.declared.category.Category.TheVariants.{Lu, Ll, Lt, Lm, Lo, Mn, Mc, Me, Nd, Nl, No, Pc, Pd, Ps, Pe, Pi, Pf, Po, Sm, Sc, Sk, So, Zs, Zl, Zp, Cc, Cf, Cs, Co, Cn}
@@ -76,23 +73,9 @@ category_spelled (a ∷ b ∷ []) k is =
     (λ last. true≢false (sym (ap (λ j. category_place j == 29) last) ∙ not-true (category_place k == 29) parts.1), (bytes_eq-Decides (a ∷ b ∷ []) (category_code k)).0 parts.0)
 category_spelled _ k is = cc
 
-abbrev is_place_of : Option Category → Category → Bool
-is_place_of None k = false
-is_place_of (Some j) k = category_place j == category_place k
-
-is_place_of-some : (o : Option Category) (k : Category) → is_place_of o k ≡ true → o ≡ Some k
-is_place_of-some None k e = absurd (true≢false (sym e))
-is_place_of-some (Some j) k e = ap (λ (x : Category). Some x) (place-injective categories category_place enumerates_categories j k (eqb-true (category_place j) (category_place k) e))
-
-abbrev is_named : Category → Bool
-is_named k = (category_place k == 29) || is_place_of (category_of (category_code k)) k
-
-code_names : (k : Category) → k ≢ Cn → category_of (category_code k) ≡ Some k
-code_names k other =
-    elim (or_cases (category_place k == 29) (is_place_of (category_of (category_code k)) k) (true_of_each categories category_place enumerates_categories is_named refl k)) [
-      | inl last ↦ absurd (other (place-injective categories category_place enumerates_categories k Cn (eqb-true (category_place k) 29 last)))
-      | inr own ↦ is_place_of-some (category_of (category_code k)) k own
-    ]
+pub code_names : (k : Category) → k ≢ Cn → category_of (category_code k) ≡ Some k
+code_names Cn other = absurd (other refl)
+code_names _ other = refl
 
 pub categories_are_spelled : CategoriesAreSpelled
 categories_are_spelled bs k = (category_spelled bs k, λ is. ap category_of is.1 ∙ code_names k is.0)
@@ -106,7 +89,7 @@ status_spelled : (bs : List ℕ) (s : FoldStatus) → status_of bs ≡ Some s �
 status_spelled (b ∷ []) s is = ap (λ n. n ∷ []) (eqb-true b (status_code s) (named-true (λ n x. n == status_code x) status_ladder b s refl is))
 status_spelled _ s is = cc
 
-code_is_status : (s : FoldStatus) → status_of (status_code s ∷ []) ≡ Some s
+pub code_is_status : (s : FoldStatus) → status_of (status_code s ∷ []) ≡ Some s
 code_is_status status.C = refl
 code_is_status _ = refl
 

@@ -1,5 +1,4 @@
 -- The names by which the files of the database speak of values, properties and files.
---
 -- category_of bs         the General_Category that two bytes name; None for all other bytes, `Cn` among them. UAX #44,
 --                        section 5.7.1, table 12
 -- letter_of b            the one whose second byte is b, behind `L`: u l t m o are Lu Ll Lt Lm Lo; None for all other bytes, and
@@ -25,10 +24,9 @@
 -- flag_name f            the name of the property in PropList.txt. UAX #44, section 5.3
 -- core_name p            the name of the property in DerivedCoreProperties.txt. UAX #44, section 5.3
 -- derived_path f         where a derived file lies below the folder of the output
-use Rattle.std.specs.Prelude.{ℕ, List, [], ◌∷◌, Option, Some, None, ◌==◌, if◌then◌else◌, codes}
+use Rattle.std.specs.Prelude.{ℕ, List, [], ◌∷◌, Option, Some, None, ◌==◌, if◌then◌else◌, codes, bytes_eq}
 use Rattle.ucd_facts.specs.declared.category.Category.{Category}
 use Rattle.ucd_facts.specs.declared.category.Category.TheVariants.{Lu, Ll, Lt, Lm, Lo, Mn, Mc, Me, Nd, Nl, No, Pc, Pd, Ps, Pe, Pi, Pf, Po, Sm, Sc, Sk, So, Zs, Zl, Zp, Cc, Cf, Cs, Co, Cn}
-use Rattle.std.specs.Str.{bytes_eq}
 use Rattle.ucd_facts.specs.declared.decomposition.Tag.{Tag}
 use Rattle.ucd_facts.specs.declared.decomposition.Tag.TheVariants.{Font, NoBreak, Initial, Medial, Final, Isolated, Circle, Super, Sub, Vertical, Wide, Narrow, Small, Square, Fraction, Compat}
 use Rattle.ucd_facts.specs.declared.row.FoldStatus.{FoldStatus}

@@ -1,5 +1,4 @@
 -- Which lines of the files beside UnicodeData.txt stand for which rows. UAX #44, section 4.2, and the heads of the files.
---
 -- ReadsValue fs row         PropList.txt, Scripts.txt, WordBreakProperty.txt: a span, and a name as the value
 -- ReadsExclusion fs row     CompositionExclusions.txt: a span
 -- FoldsTo status n          a folding of the status has n code points: one for C and S, one or more for F and T

@@ -1,6 +1,5 @@
 -- Core properties that follow from the facts of one code point. UAX #44, section 5.3, table 9;
 -- The Unicode Standard, section 4.2 (Case), 4.5 (General Category) and 4.10 (Letters, Alphabetic, and Ideographic).
---
 -- category_place k                 the place of a category in the order of UAX #44, table 12, counted from 0, with Cn last
 -- is_one_of ks k                   the category k is one of the categories ks
 -- math, alphabetic, lowercase, uppercase   as DerivedCoreProperties.txt generates them

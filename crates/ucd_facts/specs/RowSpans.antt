@@ -1,5 +1,4 @@
 -- The code points of rows.
---
 -- one_point c     the code points from c to c
 -- span_in row     the code points that the row speaks of; the one of a folding or a casing; None of a row of names
 use Rattle.std.specs.Prelude.{ℕ, Option, Some, None}

@@ -1,9 +1,7 @@
 -- Lemmas of the texts of rows.
---
 -- mapping_text-is c cs         the text of a mapping is its first code point, and the others, each with a space before it
-use Rattle.std.proofs.Common.{◌≡◌, ℕ, List, [], ◌∷◌, ◌++◌, map, sym, ap}
+use Rattle.std.proofs.Common.{◌≡◌, ℕ, List, [], ◌∷◌, ◌++◌, map, sym, ap, append-nil}
 use Rattle.std.specs.List.{join_with_byte}
-use Rattle.std.proofs.lemmas.List.{append-nil}
 use Rattle.ucd_points.specs.HexText.{hex_text}
 use Rattle.ucd_facts.specs.RowTexts.{mapping_text, spaced}
 

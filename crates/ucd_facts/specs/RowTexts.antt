@@ -1,5 +1,4 @@
 -- The text that a row is written as.
---
 -- mapping_text cs              code points with one space between them
 -- spaced cs                    code points, each with a space before it
 -- decomposition_text kind cs   field 5 of UnicodeData.txt: nothing, the mapping, or a tag, a space and the mapping
@@ -24,8 +23,7 @@
 -- names_text ns                the names with ` ; ` between them; nothing for no names
 -- alias_text row               a row of PropertyAliases.txt or PropertyValueAliases.txt: its names
 -- row_text file row            the text of a row, by its kind alone: the file plays no part
-use Rattle.std.specs.Prelude.{ℕ, List, [], ◌∷◌, ◌++◌, map, Option, Some, None, codes, if◌then◌else◌}
-use Rattle.std.specs.Fmt.{decimal}
+use Rattle.std.specs.Prelude.{ℕ, List, [], ◌∷◌, ◌++◌, map, Option, Some, None, codes, if◌then◌else◌, decimal}
 use Rattle.std.specs.List.{flat_map, join_with_byte}
 use Rattle.ucd_facts.specs.Names.{category_code, status_code, tag_text}
 use Rattle.ucd_points.specs.HexText.{hex_text, span_text}

@@ -1,5 +1,4 @@
 -- The row values that a file can have.
---
 -- IsPoint c                 a number of at most 10FFFF
 -- IsSpan s                  its first code point is at most its last, and that is at most 10FFFF
 -- IsMapping cs              at most 64 code points, each of at most 10FFFF

@@ -1,5 +1,4 @@
 -- Two sets that are kept as bits and have the same properties are one.
---
 -- core_sets_are_told, flag_sets_are_told   so it is of core properties, and of those of PropList.txt
 use Rattle.std.proofs.Common.{◌≡◌, ℕ, zero, suc, ◌<◌, ◌^◌, ◌==◌, get_or, refl, subst, arith}
 use Rattle.std.specs.Int.{bit_at}

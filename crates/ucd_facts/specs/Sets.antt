@@ -1,5 +1,4 @@
 -- Sets of properties, kept as the bits of a word.
---
 -- has_bit word place   whether the bit at the place is 1; the place counts from the lowest bit, 0
 -- flag_place f         the place of a flag in the order of Flag; core_place: of a core property in that of Core
 -- has_flag s f         whether the flag is in the set; has_core: whether the core property is

@@ -1,13 +1,10 @@
 -- What a view shows of the facts of a code point.
---
 -- image_shown shown   the image that is shown: Same where no points are
 -- shown_facts r       the facts that r shows, field by field
 use Rattle.std.specs.Prelude.{ℕ, List, Option, Some, None}
 use Rattle.std.specs.Borrow.{Bor}
-use Rattle.ucd_facts.specs.Facts.{Facts}
+use Rattle.ucd_facts.specs.Facts.{Facts, Image, Same, To}
 use Rattle.ucd_facts.specs.Sets.{has_flag}
-use Rattle.ucd_facts.specs.declared.image.Image.{Image}
-use Rattle.ucd_facts.specs.declared.image.Image.TheVariants.{Same, To}
 use Rattle.ucd_facts.specs.declared.view.FactsRef.{FactsRef}
 
 abbrev pub image_shown : Option (Bor (List ℕ)) → Image

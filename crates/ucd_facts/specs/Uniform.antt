@@ -1,13 +1,11 @@
 -- Code points without a mapping, and code points whose other facts are the same. UAX #44, sections 5.6 and 5.7.
---
 -- IsPlain c G        by its facts G the code point c has no mapping: no decomposition, and every image is c itself
 -- Alike G H          the facts are the same but for the mapping and what the case mappings and foldings give
 -- Uniform F c d      d has no mapping, its other facts are those of c, and it is the second member of a primary composite's
 --                    mapping exactly where c is
 use Rattle.std.specs.Prelude.{◌≡◌, ℕ, []}
-use Rattle.ucd_facts.specs.Facts.{Facts}
+use Rattle.ucd_facts.specs.Facts.{Facts, Same}
 use Rattle.ucd_facts.specs.Composites.{second_of}
-use Rattle.ucd_facts.specs.declared.image.Image.TheVariants.{Same}
 
 pub record IsPlain (c : ℕ) (G : Facts) : Type 0 where
   pub mapping : G.mapping ≡ []

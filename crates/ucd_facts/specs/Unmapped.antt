@@ -1,11 +1,8 @@
 -- Code points that are their own images.
---
 -- is_same i       the image is Same
 -- is_unmapped F   a point with the facts F is its own image by each of the three case mappings, and by the folding
 use Rattle.std.specs.Prelude.{ℕ, Bool, true, false, ◌&&◌}
-use Rattle.ucd_facts.specs.Facts.{Facts}
-use Rattle.ucd_facts.specs.declared.image.Image.{Image}
-use Rattle.ucd_facts.specs.declared.image.Image.TheVariants.{Same, To}
+use Rattle.ucd_facts.specs.Facts.{Facts, Image, Same, To}
 
 abbrev pub is_same : Image → Bool
 is_same Same = true

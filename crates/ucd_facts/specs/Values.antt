@@ -1,6 +1,5 @@
 -- The value of Script and of Word_Break of a code point, found by looking through the plain list of rows of their file. UAX #44,
 -- sections 4.2.10 and 5.3; UAX #24, section 2; UAX #29, section 4.1.
---
 -- gives_some c row          a row with a value that covers c: of PropList.txt, Scripts.txt or WordBreakProperty.txt, no missing row
 -- value_in d row            the value of the row that was found; d where there is none, and for a row of another file
 -- taken_missing c d row     the value of a missing row that covers c; d for every other row
@@ -14,9 +13,8 @@
 -- mid_word_values           the values of Word_Break in the middle of a word: MidLetter, MidNumLet and Single_Quote
 -- is_mid_word value         the value of Word_Break is one of them
 -- mid_word_at rows c        whether the Word_Break value of c is one of them
-use Rattle.std.specs.Prelude.{ℕ, Bool, false, List, [], ◌∷◌, Option, Some, find, fold, codes, if◌then◌else◌}
+use Rattle.std.specs.Prelude.{ℕ, Bool, false, List, [], ◌∷◌, Option, Some, find, fold, codes, if◌then◌else◌, bytes_eq}
 use Rattle.std.specs.List.{list_any}
-use Rattle.std.specs.Str.{bytes_eq}
 use Rattle.ucd_points.specs.Bounds.{within}
 use Rattle.ucd_facts.specs.declared.row.Row.{Row}
 use Rattle.ucd_facts.specs.declared.row.Row.TheVariants.{Value as ValueLine, Missing as MissingLine}

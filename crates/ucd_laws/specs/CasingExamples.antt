@@ -1,5 +1,4 @@
 -- Casing, quick checks, folding rounds and identifiers at some code points of Unicode 15.0.0.
---
 -- letters     LATIN CAPITAL LETTER S and SMALL LETTER S, LATIN SMALL LETTER SHARP S, SOFT HYPHEN, LATIN CAPITAL LETTER A WITH
 --             GRAVE, COMBINING GRAVE TONE MARK with its canonical mapping of one member, and LATIN CAPITAL LETTER SHARP S; all
 --             others have no row
@@ -8,17 +7,17 @@ use Rattle.std.proofs.Common.{◌≡◌, ℕ, true, false, [], ◌∷◌, Some, 
 use Rattle.ucd_model.specs.Casing.{lower, upper, title, fold, folded, lowers, uppers, titles, folds, casemaps, changes_when}
 use Rattle.ucd_facts.specs.Expansion.{full}
 use Rattle.ucd_facts.specs.Facts.{Facts, unassigned}
+use Rattle.ucd_facts.specs.declared.decomposition.Kind.TheVariants.{Canonical}
+use Rattle.ucd_facts.specs.declared.image.Image.TheVariants.{Same, To}
 use Rattle.ucd_model.specs.FoldRounds.{rounds, is_last, casefold, casefold_image}
 use Rattle.ucd_model.specs.Identifiers.{starts, continues}
 use Rattle.ucd_model.specs.QuickChecks.{excludes_mapping, full_exclusion, quick_given, quick}
 use Rattle.ucd_facts.specs.declared.category.Category.{Category}
 use Rattle.ucd_facts.specs.declared.category.Category.TheVariants.{Lu, Ll, Lo, Mn, Cf}
-use Rattle.ucd_facts.specs.declared.decomposition.Kind.TheVariants.{Canonical}
 use Rattle.ucd_facts.specs.declared.folding.Folding.TheVariants.{Full, Simple}
 use Rattle.ucd_facts.specs.declared.form.Bad.TheVariants.{V5}
 use Rattle.ucd_facts.specs.declared.form.Form.TheVariants.{Nfd, Nfc, Nfkd, Nfkc}
 use Rattle.ucd_facts.specs.declared.form.Quick.TheVariants.{Yes, No}
-use Rattle.ucd_facts.specs.declared.image.Image.TheVariants.{Same, To}
 
 abbrev one : Category → Facts
 one category = record (unassigned 0) { assigned = true; category = category }

@@ -1,6 +1,5 @@
 -- What the definitions give at small examples. The lines and properties are those of the Unicode Character Database,
 -- the others are worked out by hand.
---
 -- between lo hi      the span from lo to hi
 -- properties k flag  the first four core properties of a point with the category k and these flags
 -- none               no flag; is_other_math and so on: that flag alone
@@ -18,8 +17,8 @@ use Rattle.ucd_points.specs.Lines.{contents}
 use Rattle.ucd_points.specs.MissingLines.{missing_rest, is_trivia}
 use Rattle.ucd_points.specs.Fields.{fields, digit_of, point_of, span_of, is_name, is_label_closed_by, is_range_name}
 use Rattle.ucd_facts.specs.declared.row.DataRow.{DataRow}
-use Rattle.ucd_facts.specs.declared.decomposition.Kind.TheVariants.{Plain}
 use Rattle.ucd_facts.specs.Facts.{Sources, facts, unassigned}
+use Rattle.ucd_facts.specs.declared.decomposition.Kind.TheVariants.{Plain}
 use Rattle.ucd_facts.specs.Predicates.{category_place, holds}
 use Rattle.ucd_model.specs.Labels.{Label, LabelSpan, label_spans, labelled}
 use Rattle.ucd_model.specs.DerivedText.{section_text}

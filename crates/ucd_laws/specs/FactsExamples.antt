@@ -8,13 +8,13 @@ use Rattle.std.proofs.Common.{◌≡◌, ℕ, true, false, [], ◌∷◌, Some, 
 use Rattle.ucd_points.specs.Bounds.{Bounds}
 use Rattle.ucd_points.specs.Limits.{point_count}
 use Rattle.ucd_facts.specs.Facts.{Sources, Facts, facts, unassigned}
+use Rattle.ucd_facts.specs.declared.decomposition.Kind.TheVariants.{Plain, Canonical, Compat}
+use Rattle.ucd_facts.specs.declared.image.Image.TheVariants.{Same, To}
 use Rattle.ucd_facts.specs.Composites.{pair_below, second_below}
 use Rattle.ucd_facts.specs.Expansion.{expand, full}
 use Rattle.ucd_facts.specs.declared.category.Category.{Category}
 use Rattle.ucd_facts.specs.declared.category.Category.TheVariants.{Lu, Ll, Lo, Mn}
-use Rattle.ucd_facts.specs.declared.decomposition.Kind.TheVariants.{Plain, Canonical, Compat}
 use Rattle.ucd_facts.specs.declared.decomposition.Tag.TheVariants.{Compat as CompatTag}
-use Rattle.ucd_facts.specs.declared.image.Image.TheVariants.{Same, To}
 use Rattle.ucd_points.specs.declared.files.SourceFile.TheVariants.{UnicodeData, WordBreakProperty, CompositionExclusions, CaseFolding, SpecialCasing}
 use Rattle.ucd_facts.specs.declared.row.DataRow.{DataRow}
 use Rattle.ucd_facts.specs.declared.row.Row.TheVariants.{Unit as DataLine, Value as ValueLine, Exclusion as ExclusionLine, Fold as FoldLine, Casing as CasingLine, Missing as MissingLine}

@@ -1,5 +1,4 @@
 -- What canonical order and composition give at small examples, after UAX #15 and the normalisation test of the database.
---
 -- class    the classes of 0307 and 0301, above (230), of 0323, below (220), of 0327, attached below (202), of 0345 (240);
 --          every other point has class 0
 -- pair     00E7 is 0063 0327, 1E09 is 00E7 0301, 1E0A is 0044 0307, 1E0C is 0044 0323, AC00 is 1100 1161, AC01 is AC00 11A8

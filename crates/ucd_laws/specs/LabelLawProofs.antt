@@ -1,14 +1,12 @@
 -- Proofs of the laws of maximal spans.
---
 -- starts n f        the numbers below n at which a span begins
 -- IsStart n f i c   the span at place i begins at c
 --
 -- spans_lie_below, spans_have_one_label, spans_are_maximal, stretches_are_spans, spans_ascend, spans_do_not_touch,
 -- spans_are_disjoint, labelled_lie_in_a_span, others_lie_in_no_span, labelled_is_their_length   the laws of the same names
-use Rattle.std.proofs.Common.{◌≡◌, ◌≢◌, ℕ, zero, suc, ◌+◌, ◌-◌, ◌<◌, ◌≤◌, Bool, true, false, cond, not, List, [], ◌∷◌, ◌++◌, length, get_or, filter, Option, Some, None, is_some, IsSome, unwrap_or, sum_by, refl, sym, ap, subst, ◌∙◌, arith, inl, inr, slice_get}
+use Rattle.std.proofs.Common.{◌≡◌, ◌≢◌, ℕ, zero, suc, ◌+◌, ◌-◌, ◌<◌, ◌≤◌, Bool, true, false, cond, not, List, [], ◌∷◌, ◌++◌, length, get_or, filter, Option, Some, None, is_some, IsSome, unwrap_or, sum_by, refl, sym, ap, subst, ◌∙◌, arith, inl, inr, slice_get, option_map}
 use Rattle.std.specs.List.{range_with_len, prefix_len, All, AllPairs}
 use Rattle.std.specs.List.Sorted.{IsStrictlyIncreasing}
-use Rattle.std.specs.Option.{option_map}
 use Rattle.std.proofs.lemmas.List.FromFn.{length-range_with_len, get_or-range_with_len}
 use Rattle.std.proofs.lemmas.List.Sums.{prefix_len-le-length, prefix_len_passes, prefix_len_stops, sum_by_push}
 use Rattle.std.proofs.lemmas.List.Elements.{All-filter, filter_passes, All-from_get_or}

@@ -1,6 +1,5 @@
 -- The derived properties of some code points, with the values of DerivedCoreProperties.txt of Unicode 15.0.0, and the
 -- derived files over a few records.
---
 -- point k class         the facts of a point of category k and of that combining class, with no flag
 -- with_flag f F         the facts F with the flag f as well
 -- in_word F             the facts F of a point with a Word_Break value of mid_word_values
@@ -11,6 +10,8 @@ use Rattle.std.proofs.Common.{◌≡◌, ℕ, true, false, List, [], ◌∷◌, 
 use Rattle.std.specs.Fmt.{digits}
 use Rattle.ucd_facts.specs.Expansion.{full}
 use Rattle.ucd_facts.specs.Facts.{Facts, unassigned}
+use Rattle.ucd_facts.specs.declared.decomposition.Kind.TheVariants.{Plain, Canonical, Compat}
+use Rattle.ucd_facts.specs.declared.image.Image.TheVariants.{Same, To}
 use Rattle.ucd_facts.specs.Names.{tag_text, tag_name}
 use Rattle.ucd_facts.specs.Predicates.{holds, core_properties}
 use Rattle.ucd_model.specs.Records.{Record, record_at}
@@ -21,12 +22,10 @@ use Rattle.ucd_facts.specs.RowTexts.{mapping_text}
 use Rattle.ucd_facts.specs.Sets.{flag_place}
 use Rattle.ucd_facts.specs.declared.category.Category.{Category}
 use Rattle.ucd_facts.specs.declared.category.Category.TheVariants.{Lu, Ll, Lt, Lm, Lo, Mn, Mc, Me, Nd, Nl, No, Pc, Po, Sm, Sk, Zs, Zl, Cc, Cf, Cs, Co, Cn}
-use Rattle.ucd_facts.specs.declared.decomposition.Kind.TheVariants.{Plain, Canonical, Compat}
 use Rattle.ucd_facts.specs.declared.decomposition.Tag.{Tag}
 use Rattle.ucd_facts.specs.declared.decomposition.Tag.TheVariants.{Font, NoBreak}
 use Rattle.ucd_facts.specs.declared.files.DerivedFile.TheVariants.{CoreProperties, NormalizationProps, GeneralCategory, CombiningClass, DecompositionType}
 use Rattle.ucd_facts.specs.declared.form.Quick.TheVariants.{Yes, No, Maybe}
-use Rattle.ucd_facts.specs.declared.image.Image.TheVariants.{Same, To}
 use Rattle.ucd_facts.specs.declared.property.Core.{Core}
 use Rattle.ucd_facts.specs.declared.property.Core.TheVariants.{Math, Alphabetic, Lowercase, Uppercase, Cased, CaseIgnorable, IdStart, IdContinue, DefaultIgnorableCodePoint, GraphemeExtend, GraphemeBase, GraphemeLink}
 use Rattle.ucd_facts.specs.declared.property.Flag.{Flag}

@@ -1,5 +1,4 @@
 -- The rules of a valid release over a few points.
---
 -- mapped k points c   the facts of c, which has a row, the kind k and this decomposition mapping
 -- sample              1 maps to 2, which has no row; 3 maps to 4 and 4 to 3; 5 maps by a compatibility mapping to 64 times 6,
 --                     and 7 to 64 times 6 and to 6 once more; 6 has no mapping; 8 folds to 6 and 2, of which 2 has no row, and its
@@ -7,11 +6,11 @@
 use Rattle.std.proofs.Common.{◌≡◌, ℕ, true, false, List, [], ◌∷◌, get_or, refl, replicate}
 use Rattle.ucd_facts.specs.Expansion.{full}
 use Rattle.ucd_facts.specs.Facts.{Facts, unassigned}
-use Rattle.ucd_model.specs.Validity.{lacks_row, lacks_a_row, is_endless, is_too_long}
 use Rattle.ucd_facts.specs.declared.decomposition.Kind.{Kind}
 use Rattle.ucd_facts.specs.declared.decomposition.Kind.TheVariants.{Plain, Canonical, Compat}
-use Rattle.ucd_facts.specs.declared.decomposition.Tag.TheVariants.{Compat as CompatTag}
 use Rattle.ucd_facts.specs.declared.image.Image.TheVariants.{To}
+use Rattle.ucd_model.specs.Validity.{lacks_row, lacks_a_row, is_endless, is_too_long}
+use Rattle.ucd_facts.specs.declared.decomposition.Tag.TheVariants.{Compat as CompatTag}
 
 abbrev mapped : Kind → List ℕ → ℕ → Facts
 mapped kind points c = record (unassigned c) { assigned = true; kind = kind; mapping = points }

@@ -1,7 +1,6 @@
 -- Laws of the lines of a text.
-use Rattle.std.proofs.Common.{◌≡◌, ◌≢◌, ℕ, zero, suc, ◌-◌, ◌≤◌, Bool, true, false, ◌||◌, List, [], ◌∷◌, ◌++◌, length, take, map, refl, ap, ◌∙◌, arith}
+use Rattle.std.proofs.Common.{◌≡◌, ◌≢◌, ℕ, zero, suc, ◌-◌, ◌≤◌, Bool, true, false, ◌||◌, List, [], ◌∷◌, ◌++◌, length, take, map, refl, ap, ◌∙◌, arith, append_assoc, append-nil, length-append}
 use Rattle.std.specs.List.{slice_split, onto_first, list_any, join_with_byte}
-use Rattle.std.proofs.lemmas.List.{append_assoc, append-nil, length-append}
 use Rattle.std.proofs.lemmas.List.Splits.{join_with_byte-slice_split, length-slice_split}
 use Rattle.std.proofs.lemmas.Bool.{or_parts}
 use Rattle.ucd_points.specs.Lines.{LineItem, LineEnding, unended, lf, cr_lf, is_lf, ending_bytes, without_return, ends_in_return, ended_item, contents_of_pieces, contents, items_of_pieces, items_of, item_bytes, joined}

@@ -1,5 +1,4 @@
 -- A list without a separator is its one part.
---
 -- split_whole p xs         where nothing in xs is a separator, xs is all that it is split into
 use Rattle.std.proofs.Common.{◌≡◌, ℕ, ◌≤◌, Bool, true, false, List, [], ◌∷◌, length, refl, arith}
 use Rattle.std.specs.List.{slice_split, position_or_len}

@@ -1,5 +1,4 @@
 -- The digits that a code point is written in.
---
 -- six_digits c   the last six hexadecimal digits of a number, the most significant first
 use Rattle.std.specs.Prelude.{ℕ, ◌/◌, ◌%◌, List, ◌∷◌}
 use Rattle.ucd_points.specs.HexText.{hex_digit, four_digits}

@@ -1,5 +1,4 @@
 -- The fields of a line that are left to be handed out. UAX #44, section 4.2.
---
 -- fields_left rest   the fields of the text that is left; none where there is no text left
 use Rattle.std.specs.Prelude.{ℕ, List, [], map, Option, Some, None}
 use Rattle.std.specs.List.{slice_split}

@@ -1,5 +1,4 @@
 -- The lines that the code hands out, as the definitions name them. UAX #44, section 4.2.
---
 -- ending_of e   what ends the line: nothing, LF, or CR LF
 -- item_of i     the line of an item: its content and what ends it
 use Rattle.ucd_points.specs.Lines.{LineItem, LineEnding, unended, lf, cr_lf}

@@ -1,5 +1,4 @@
 -- Laws of lines and code points.
---
 -- HasItem bytes front item rest   the text has this line, behind the lines of front and before those of rest
 -- ItemsJoin                       contents and endings put together give the text, for every text
 -- EmptyTextHasNoLine              the empty text has no line
@@ -8,11 +7,12 @@
 -- EndingsAreToldApart             a content that LF alone ends does not end in CR
 -- IsLine item rest                the line keeps the three laws above, with the lines behind it
 -- AreLines items                  each of the lines does; no lines do
+-- lines_behind                    the lines behind the first ones of a text are lines, if the three laws hold
 -- LinesAreUnique                  lines that keep these laws are the lines of what they give put together, so that a text has no
 --                                 others
 -- ContentsAreItems                the contents of the lines are `contents`
 -- HexReadsPutHex                  what a code point is written in spells that code point
-use Rattle.std.specs.Prelude.{◌≡◌, ◌≢◌, ℕ, ◌<◌, false, List, [], ◌∷◌, ◌++◌, map, Some}
+use Rattle.std.proofs.Common.{◌≡◌, ◌≢◌, ℕ, ◌<◌, false, List, [], ◌∷◌, ◌++◌, map, Some, sym, ◌∙◌, append_assoc}
 use Rattle.std.specs.List.{list_any}
 use Rattle.ucd_points.specs.Lines.{LineItem, unended, lf, is_lf, ends_in_return, contents, items_of, joined}
 use Rattle.ucd_points.specs.Fields.{point_of}
@@ -44,6 +44,10 @@ pub record IsLine (item : LineItem) (rest : List LineItem) : Type 0 where
 abbrev pub AreLines : List LineItem → Type 0
 AreLines [] = Unit
 AreLines (item ∷ rest) = IsLine item rest × AreLines rest
+
+pub lines_behind : (bytes : List ℕ) (front lines : List LineItem) → NoLineFeedInside → OnlyTheLastIsUnended → EndingsAreToldApart → items_of bytes ≡ front ++ lines → AreLines lines
+lines_behind bytes front [] feeds ends told e = tt
+lines_behind bytes front (line ∷ lines) feeds ends told e = (record { no_line_feed = feeds bytes front line lines e; last = ends bytes front line lines e; no_return = told bytes front line lines e }, lines_behind bytes (front ++ line ∷ []) lines feeds ends told (e ∙ sym (append_assoc front (line ∷ []) lines)))
 
 abbrev pub LinesAreUnique : Type 0
 LinesAreUnique = (items : List LineItem) → AreLines items → items_of (joined items) ≡ items

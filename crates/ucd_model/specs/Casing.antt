@@ -13,9 +13,7 @@
 -- casemaps F s             D143: whether it changes when it is lowercased, uppercased or titlecased
 -- where_form p r           p of the list r; false where r is a rule
 -- changes_when test F c    the test of the canonical decomposition of c
-use Rattle.std.specs.Prelude.{ℕ, Bool, false, ◌||◌, not, List, [], ◌∷◌, ◌++◌, Result, Ok, Err, map, if◌then◌else◌}
-use Rattle.std.specs.List.{flat_map}
-use Rattle.std.specs.Str.{bytes_eq}
+use Rattle.std.specs.Prelude.{ℕ, Bool, false, ◌||◌, not, List, [], ◌∷◌, ◌++◌, Result, Ok, Err, map, if◌then◌else◌, flat_map, bytes_eq}
 use Rattle.ucd_facts.specs.Facts.{Facts, image_points}
 use Rattle.ucd_model.specs.Forms.{nfd}
 use Rattle.ucd_facts.specs.Predicates.{cased}

@@ -1,5 +1,4 @@
 -- The code points, cut into spans of equal records.
---
 -- IsEqualIn R s         each point of the span s has the record of its first point
 -- IsCut R lo n pieces   the pieces are spans that follow one another from lo to before n, and R is the same throughout each; no
 --                       pieces where lo is n

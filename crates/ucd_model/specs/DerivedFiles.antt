@@ -1,6 +1,5 @@
 -- The derived files, over the records of the code points. The files, properties and values are those of UAX #44,
 -- section 5.3; their text is this project's own.
---
 -- Section                    a name, and the label of a record in it: None for the default value, which is not listed
 -- listed value               the label ` ; VALUE`
 -- binary_label name b        the label of a point that has the property of that name, where b holds
@@ -24,9 +23,7 @@
 -- file_sections file         the sections of a file, in order
 -- section_of n R s           the text of a section, over the records R of the points below n
 -- derived_text n file R      the text of a file
-use Rattle.std.specs.Prelude.{ℕ, Bool, List, [], ◌∷◌, ◌++◌, Some, None, map, ◌==◌, if◌then◌else◌, codes}
-use Rattle.std.specs.List.{flat_map}
-use Rattle.std.specs.Fmt.{decimal}
+use Rattle.std.specs.Prelude.{ℕ, Bool, List, [], ◌∷◌, ◌++◌, Some, None, map, ◌==◌, if◌then◌else◌, codes, flat_map, decimal}
 use Rattle.ucd_facts.specs.Names.{core_name, category_code, tag_name}
 use Rattle.ucd_facts.specs.Predicates.{is_one_of, core_properties}
 use Rattle.ucd_model.specs.Records.{Record}

@@ -1,10 +1,8 @@
 -- The text of a derived file depends on the records of the code points alone.
---
 -- derived_text_same   records that are the same below n give the same text
-use Rattle.std.proofs.Common.{◌≡◌, ℕ, zero, suc, ◌+◌, ◌-◌, ◌<◌, ◌≤◌, Bool, true, false, cond, List, ◌∷◌, length, map, filter, is_some, count_by, refl, sym, ap, ◌∙◌, arith}
+use Rattle.std.proofs.Common.{◌≡◌, ℕ, zero, suc, ◌+◌, ◌-◌, ◌<◌, ◌≤◌, Bool, true, false, cond, List, ◌∷◌, length, map, filter, is_some, count_by, refl, sym, ap, ◌∙◌, arith, map-id}
 use mathlib.Core.Path.{fun_ext}
 use Rattle.std.specs.List.{flat_map, range_with_len, prefix_len}
-use Rattle.std.proofs.lemmas.List.{map-id}
 use Rattle.std.proofs.lemmas.List.Sums.{length-filter}
 use Rattle.ucd_model.specs.Labels.{Label, same_label, begins, span_end, span_from, label_spans, labelled}
 use Rattle.ucd_model.specs.DerivedText.{section_text}

@@ -1,11 +1,8 @@
 -- The text of the derived files. The files are those of UAX #44, section 5.3; their text is this project's own.
---
 -- line_end                LF
 -- span_line s             the line of a span: its text, its label, LF
 -- section_text name n f   `# NAME`, a line for each span with its label behind it, `# total N`, and an empty line
-use Rattle.std.specs.Prelude.{ℕ, ◌+◌, ◌/◌, ◌%◌, List, [], ◌∷◌, ◌++◌, ◌==◌, if◌then◌else◌, codes}
-use Rattle.std.specs.List.{flat_map}
-use Rattle.std.specs.Fmt.{decimal}
+use Rattle.std.specs.Prelude.{ℕ, List, [], ◌∷◌, ◌++◌, codes, flat_map, decimal}
 use Rattle.ucd_points.specs.HexText.{span_text}
 use Rattle.ucd_model.specs.Labels.{Label, LabelSpan, label_spans, labelled}
 

@@ -16,19 +16,17 @@
 -- image_or_rule c r            the image of c under the list r; V5 where there is none
 -- casefold_image folding F c   the image of c under that list; V5 where there is none
 -- image_or_same r              the image, and Same where there is a rule in its place
-use Rattle.std.specs.Prelude.{ℕ, zero, suc, Bool, false, not, List, [], ◌∷◌, length, nat_le, Option, Some, None, Result, Ok, Err, filter, find, if◌then◌else◌}
+use Rattle.std.specs.Prelude.{ℕ, zero, suc, Bool, false, not, List, [], ◌∷◌, length, nat_le, Option, Some, None, Result, Ok, Err, filter, find, if◌then◌else◌, option_and_then, bytes_eq}
 use Rattle.std.specs.List.{range_with_len}
-use Rattle.std.specs.Option.{option_and_then}
-use Rattle.std.specs.Str.{bytes_eq}
 use Rattle.ucd_model.specs.Casing.{folded}
 use Rattle.ucd_facts.specs.Facts.{Facts, image}
+use Rattle.ucd_facts.specs.declared.image.Image.{Image}
+use Rattle.ucd_facts.specs.declared.image.Image.TheVariants.{Same}
 use Rattle.ucd_model.specs.Forms.{nfkc}
 use Rattle.ucd_facts.specs.Predicates.{default_ignorable}
 use Rattle.ucd_facts.specs.declared.folding.Folding.{Folding}
 use Rattle.ucd_facts.specs.declared.form.Bad.{Bad as Rule}
 use Rattle.ucd_facts.specs.declared.form.Bad.TheVariants.{V5}
-use Rattle.ucd_facts.specs.declared.image.Image.{Image}
-use Rattle.ucd_facts.specs.declared.image.Image.TheVariants.{Same}
 
 abbrev pub drop_ignorable : (ℕ → Facts) → List ℕ → List ℕ
 drop_ignorable F s = filter (λ x. not (default_ignorable x (F x))) s

@@ -1,5 +1,4 @@
 -- What is kept of the numbers below n.
---
 -- in_kept         of the numbers below n, those that a test passes are kept
 use Rattle.std.proofs.Common.{◌≡◌, ℕ, ◌<◌, Bool, true, ◌&&◌, ◌==◌, filter, sym, ap, subst, ◌∙◌, arith}
 use Rattle.std.specs.List.{range_with_len}

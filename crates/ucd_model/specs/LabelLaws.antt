@@ -1,11 +1,8 @@
 -- The laws of the labels under which the derived files list values.
---
 -- HasPoints i          the points of an image are code points
---
 -- LabelsTellValues     two values with one label are one: categories, classes, kinds, quick checks, images, and whether a point has
 --                      a property
-use Rattle.std.specs.Prelude.{◌≡◌, ℕ, ◌≤◌, Bool, List, ⊤}
-use Rattle.std.specs.List.{All}
+use Rattle.std.specs.Prelude.{◌≡◌, ℕ, ◌≤◌, Bool, List, ⊤, All}
 use Rattle.ucd_model.specs.DerivedFiles.{binary_label, category_label, class_label, kind_label, quick_label, casefold_label}
 use Rattle.ucd_facts.specs.RowValues.{IsPoint}
 use Rattle.ucd_facts.specs.declared.category.Category.{Category}

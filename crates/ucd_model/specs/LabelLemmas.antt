@@ -1,6 +1,5 @@
 -- How the maximal spans grow, run by run. A run is a stretch of numbers with one label, before which another label
 -- stands or none.
---
 -- same_label-true       a label is the same as itself
 -- IsRun n f at end      the numbers from `at` to before `end`, one or more and all below n, have the label of `at`; the one
 --                       before `at` has not, and where `end` is below n, `end` has not
@@ -11,11 +10,12 @@
 -- run_labelled          a run with a label is one more span, and as many more numbers with a label as it has
 use Rattle.std.proofs.Common.{◌≡◌, ℕ, zero, suc, ◌+◌, ◌-◌, ◌<◌, ◌≤◌, Bool, true, false, cond, ◌&&◌, not, List, [], ◌∷◌, ◌++◌, length, get_or, map, filter, Some, None, is_some, unwrap_or, count_by, refl, sym, ap, ◌∙◌, arith, inl, inr}
 use Rattle.std.specs.List.{range_with_len, prefix_len}
-use Rattle.std.proofs.lemmas.List.{append-nil, map-append, map-id}
-use Rattle.std.proofs.lemmas.List.FromFn.{filter_of_map_range_with_len_more, sum_by-map-range_with_len_more, length-range_with_len, get_or-range_with_len}
+use Rattle.std.proofs.lemmas.List.{map-append}
+use Rattle.std.proofs.lemmas.List.FromFn.{length-range_with_len, get_or-range_with_len}
 use Rattle.std.proofs.lemmas.List.Sums.{prefix_len_is}
 use Rattle.std.proofs.lemmas.Bool.{cases_lt}
 use Rattle.std.proofs.lemmas.Slice.Eq.{bytes_eq-Decides}
+use Rattle.ucd_points.specs.PlainProofs.{filter_more, filter_none, count_alike}
 use Rattle.ucd_model.specs.Labels.{Label, same_label, begins, span_end, LabelSpan, span_from}
 
 -- ---- equal labels
@@ -26,46 +26,10 @@ same_label-true (Some x) = (bytes_eq-Decides x x).1 refl
 
 -- ---- one number more
 
-filter_more : (p : ℕ → Bool) (n : ℕ) → filter p (range_with_len 0 (n + 1)) ≡ filter p (range_with_len 0 n) ++ cond (p n) (n ∷ []) []
-filter_more p n =
-    ap (filter p) (sym (map-id (range_with_len 0 (n + 1)))) ∙ filter_of_map_range_with_len_more p (λ k. k) 0 n n (omega arith)
-    ∙ ap (λ (xs : List ℕ). filter p xs ++ cond (p n) (n ∷ []) []) (map-id (range_with_len 0 n))
-
-count_more : (p : ℕ → Bool) (n : ℕ) → count_by p (range_with_len 0 (n + 1)) ≡ count_by p (range_with_len 0 n) + cond (p n) 1 0
-count_more p n =
-    ap (count_by p) (sym (map-id (range_with_len 0 (n + 1)))) ∙ sum_by-map-range_with_len_more (λ k. cond (p k) 1 0) (λ k. k) 0 n n (omega arith)
-    ∙ ap (λ (xs : List ℕ). count_by p xs + cond (p n) 1 0) (map-id (range_with_len 0 n))
-
 -- where none of the next j numbers passes, the filter stays
-filter_none : (p : ℕ → Bool) (a j : ℕ) → ((k : ℕ) → a ≤ k → k < a + j → p k ≡ false) → filter p (range_with_len 0 (a + j)) ≡ filter p (range_with_len 0 a)
-filter_none p a zero h = ap (λ n. filter p (range_with_len 0 n)) (omega arith)
-filter_none p a (suc j) h =
-    let last : p (a + j) ≡ false = h (a + j) (omega arith) (omega arith) in
-    let before : filter p (range_with_len 0 (a + j)) ≡ filter p (range_with_len 0 a) = filter_none p a j (λ k low high. h k low (omega arith)) in
-    let next : a + suc j ≡ (a + j) + 1 = omega arith in
-    ap (λ n. filter p (range_with_len 0 n)) next ∙ filter_more p (a + j)
-    ∙ ap (λ b. filter p (range_with_len 0 (a + j)) ++ cond b ((a + j) ∷ []) []) last
-    ∙ append-nil (filter p (range_with_len 0 (a + j))) ∙ before
 
 count_none : (p : ℕ → Bool) (a j : ℕ) → ((k : ℕ) → a ≤ k → k < a + j → p k ≡ false) → count_by p (range_with_len 0 (a + j)) ≡ count_by p (range_with_len 0 a)
-count_none p a zero h = let same : a + 0 ≡ a = omega arith in ap (λ n. count_by p (range_with_len 0 n)) same
-count_none p a (suc j) h =
-    let last : p (a + j) ≡ false = h (a + j) (omega arith) (omega arith) in
-    let before : count_by p (range_with_len 0 (a + j)) ≡ count_by p (range_with_len 0 a) = count_none p a j (λ k low high. h k low (omega arith)) in
-    let next : a + suc j ≡ (a + j) + 1 = omega arith in
-    let more : count_by p (range_with_len 0 ((a + j) + 1)) ≡ count_by p (range_with_len 0 (a + j)) + 0 = rw last at (count_more p (a + j)) in
-    let counts : count_by p (range_with_len 0 (a + suc j)) ≡ count_by p (range_with_len 0 ((a + j) + 1)) = ap (λ n. count_by p (range_with_len 0 n)) next in
-    omega (arith, before, more, counts)
-
-count_all : (p : ℕ → Bool) (a j : ℕ) → ((k : ℕ) → a ≤ k → k < a + j → p k ≡ true) → count_by p (range_with_len 0 (a + j)) ≡ count_by p (range_with_len 0 a) + j
-count_all p a zero h = let same : a + 0 ≡ a = omega arith in let counts : count_by p (range_with_len 0 (a + 0)) ≡ count_by p (range_with_len 0 a) = ap (λ n. count_by p (range_with_len 0 n)) same in omega (arith, counts)
-count_all p a (suc j) h =
-    let last : p (a + j) ≡ true = h (a + j) (omega arith) (omega arith) in
-    let before : count_by p (range_with_len 0 (a + j)) ≡ count_by p (range_with_len 0 a) + j = count_all p a j (λ k low high. h k low (omega arith)) in
-    let next : a + suc j ≡ (a + j) + 1 = omega arith in
-    let more : count_by p (range_with_len 0 ((a + j) + 1)) ≡ count_by p (range_with_len 0 (a + j)) + 1 = rw last at (count_more p (a + j)) in
-    let counts : count_by p (range_with_len 0 (a + suc j)) ≡ count_by p (range_with_len 0 ((a + j) + 1)) = ap (λ n. count_by p (range_with_len 0 n)) next in
-    omega (arith, before, more, counts)
+count_none p a j h = omega (arith, count_alike p false a j h)
 
 -- ---- a run
 
@@ -133,5 +97,5 @@ run_labelled n f at end run some =
     ∙ ap (λ b. filter (begins f) (range_with_len 0 at) ++ cond b (at ∷ []) []) (begins_at n f at end run ∙ some) in
     let span : span_from n f at ≡ record { bounds = record { lo = at; hi = end - 1 }; label = unwrap_or (f at) [] } = ap (λ (h : ℕ). let s : LabelSpan = record { bounds = record { lo = at; hi = h }; label = unwrap_or (f at) [] } in s) (span_end_run n f at end run) in (
       ap (map (span_from n f)) grown ∙ map-append (span_from n f) (filter (begins f) (range_with_len 0 at)) (at ∷ []) ∙ ap (λ (s : LabelSpan). spans_before n f at ++ s ∷ []) span,
-      ap (λ m. labelled_before f m) (sym long) ∙ count_all (λ c. is_some (f c)) at (end - at) has_label,
+      ap (λ m. labelled_before f m) (sym long) ∙ count_alike (λ c. is_some (f c)) true at (end - at) has_label,
     )

@@ -1,5 +1,4 @@
 -- Maximal spans of equal value, over the numbers below n.
---
 -- Label             the text that stands behind a span; None where the value is the default, which is not listed
 -- same_label a b    the same text, or none on both sides
 -- begins f c        a span begins at c: c has a label, and c - 1 has another one or none; at 0, c has a label
@@ -8,10 +7,9 @@
 -- span_from n f c   the span that begins at c, with the label of c; the empty text where c has none
 -- label_spans n f   the spans in ascending order, each with its label
 -- labelled n f      how many of the numbers have a label
-use Rattle.std.specs.Prelude.{ℕ, zero, suc, ◌+◌, ◌-◌, Bool, ◌&&◌, not, List, map, filter, Option, is_some, unwrap_or, [], count_by}
+use Rattle.std.specs.Prelude.{ℕ, zero, suc, ◌+◌, ◌-◌, Bool, ◌&&◌, not, List, map, filter, Option, is_some, unwrap_or, [], count_by, bytes_eq}
 use Rattle.std.specs.List.{range_with_len, prefix_len}
 use Rattle.std.specs.Option.{option_eq}
-use Rattle.std.specs.Str.{bytes_eq}
 use Rattle.ucd_points.specs.Bounds.{Bounds}
 
 abbrev pub Label : Type 0

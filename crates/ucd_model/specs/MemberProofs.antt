@@ -35,7 +35,7 @@ pub Each-to : (P Q : ℕ → Type 0) → ((x : ℕ) → P x → Q x) → (xs : L
 Each-to P Q to [] e = tt
 Each-to P Q to (x ∷ xs) e = (to x e.0, Each-to P Q to xs e.1)
 
-list_all-same : (p q : ℕ → Bool) (xs : List ℕ) → Each (λ x. p x ≡ q x) xs → list_all p xs ≡ list_all q xs
+pub list_all-same : (p q : ℕ → Bool) (xs : List ℕ) → Each (λ x. p x ≡ q x) xs → list_all p xs ≡ list_all q xs
 list_all-same p q [] e = refl
 list_all-same p q (x ∷ xs) e = rw (e.0, list_all-same p q xs e.1) refl
 

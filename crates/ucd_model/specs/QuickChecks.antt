@@ -12,8 +12,7 @@
 -- quick_where value r        the value of the list r; where r is a rule, that rule
 -- quick F form c             the same, or the rule for which c alone has no form
 -- quick_or_yes r             the value, and Yes where there is none
-use Rattle.std.specs.Prelude.{ℕ, Bool, true, false, ◌&&◌, ◌||◌, not, List, [], ◌∷◌, Result, Ok, Err, ◌==◌, if◌then◌else◌}
-use Rattle.std.specs.Str.{bytes_eq}
+use Rattle.std.specs.Prelude.{ℕ, Bool, true, false, ◌&&◌, ◌||◌, not, List, [], ◌∷◌, Result, Ok, Err, ◌==◌, if◌then◌else◌, bytes_eq}
 use Rattle.ucd_facts.specs.Facts.{Facts, is_plain}
 use Rattle.ucd_facts.specs.Composites.{is_canonical, second_of}
 use Rattle.ucd_model.specs.Forms.{nfd, nfc, nfkd, nfkc}

@@ -1,5 +1,4 @@
 -- What is derived of a code point: one record for each, from which the derived files are written. UAX #44, section 5.3.
---
 -- Record               the values of a code point's derived properties
 -- kept_record k        the record that a value keeps
 -- core_at F c p        whether c has the core property p
@@ -8,23 +7,22 @@
 --                      facts. What needs a form or a folding of c that is not there is absent, Yes, or c itself
 -- record_or_rule R b    R where there is no rule, else the rule
 -- derived F c          the record of c, or in its place the first rule of a valid release that c breaks
-use Rattle.std.specs.Prelude.{ℕ, Bool, not, [], ◌∷◌, Option, Some, None, Result, Ok, Err}
-use Rattle.std.specs.Str.{bytes_eq}
+use Rattle.std.specs.Prelude.{ℕ, Bool, not, [], ◌∷◌, Option, Some, None, Result, Ok, Err, bytes_eq}
 use Rattle.ucd_model.specs.Casing.{lowers, uppers, titles, folds, casemaps, changes_when}
 use Rattle.ucd_facts.specs.Facts.{Facts, image_points}
+use Rattle.ucd_facts.specs.declared.decomposition.Kind.{Kind}
+use Rattle.ucd_facts.specs.declared.image.Image.{Image}
 use Rattle.ucd_model.specs.FoldRounds.{casefold_image, image_or_same}
 use Rattle.ucd_model.specs.Identifiers.{xid_start, xid_continue}
 use Rattle.ucd_facts.specs.Predicates.{holds}
 use Rattle.ucd_model.specs.QuickChecks.{full_exclusion, quick, quick_or_yes}
 use Rattle.ucd_facts.specs.Sets.{has_core}
 use Rattle.ucd_facts.specs.declared.category.Category.{Category}
-use Rattle.ucd_facts.specs.declared.decomposition.Kind.{Kind}
 use Rattle.ucd_facts.specs.declared.form.Quick.{Quick}
 use Rattle.ucd_model.specs.Validity.{broken}
 use Rattle.ucd_facts.specs.declared.form.Bad.{Bad as Rule}
 use Rattle.ucd_facts.specs.declared.folding.Folding.TheVariants.{Full, Simple}
 use Rattle.ucd_facts.specs.declared.form.Form.TheVariants.{Nfd, Nfc, Nfkd, Nfkc}
-use Rattle.ucd_facts.specs.declared.image.Image.{Image}
 use Rattle.ucd_facts.specs.declared.property.Core.{Core}
 use Rattle.ucd_facts.specs.declared.property.Core.TheVariants.{Math, Alphabetic, Lowercase, Uppercase, Cased, CaseIgnorable, ChangesWhenLowercased, ChangesWhenUppercased, ChangesWhenTitlecased, ChangesWhenCasefolded, ChangesWhenCasemapped, IdStart, IdContinue, XidStart, XidContinue, DefaultIgnorableCodePoint, GraphemeExtend, GraphemeBase, GraphemeLink}
 use Rattle.ucd_model.specs.declared.records.Record.{Record as KeptRecord}

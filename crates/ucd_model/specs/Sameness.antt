@@ -1,6 +1,5 @@
 -- Equality as a test, of lists of code points, images, records and facts. Sameness is told by places, since the values of an
 -- enumeration stand each at its own.
---
 -- is_in xs c              c is one of the numbers xs
 -- same_image i j          the images are equal
 -- same_cores f g          f and g have the same core properties
@@ -11,23 +10,21 @@
 -- same_simple F G         equal in the simple case mappings and folding
 -- same_images F G         equal in the full case mappings and folding
 -- same_marks F G          equal in what the other files say
---
 -- MembersAreTold          `is_in` tells the members of a list
 -- RecordsAreTold          `same_record` tells whether two records are equal
 -- FactsAreTold            `same_facts` tells whether the facts of two code points are equal
 -- SetsAreTold             two kept sets with the same properties are one
 -- KeptRecordsAreTold      two kept records that keep one record are one
-use Rattle.std.specs.Prelude.{◌≡◌, ℕ, ◌<◌, ◌^◌, Bool, true, false, ◌&&◌, ◌==◌, List}
+use Rattle.std.specs.Prelude.{◌≡◌, ℕ, ◌<◌, ◌^◌, Bool, true, false, ◌&&◌, ◌==◌, List, bytes_eq}
 use Rattle.std.specs.Bool.{Decides, beq}
 use Rattle.std.specs.List.{Contains, list_any, list_all}
-use Rattle.std.specs.Str.{bytes_eq}
 use Rattle.ucd_facts.specs.Enumerations.{flags, place_of_kind, place_of_quick}
 use Rattle.ucd_facts.specs.Facts.{Facts}
+use Rattle.ucd_facts.specs.declared.image.Image.{Image}
+use Rattle.ucd_facts.specs.declared.image.Image.TheVariants.{Same, To}
 use Rattle.ucd_facts.specs.Predicates.{category_place, core_properties}
 use Rattle.ucd_model.specs.Records.{Record, kept_record}
 use Rattle.ucd_facts.specs.Sets.{has_flag, has_core}
-use Rattle.ucd_facts.specs.declared.image.Image.{Image}
-use Rattle.ucd_facts.specs.declared.image.Image.TheVariants.{Same, To}
 use Rattle.ucd_facts.specs.declared.property.Flag.{Flag}
 use Rattle.ucd_facts.specs.declared.property.Core.{Core}
 use Rattle.ucd_model.specs.declared.records.Record.{Record as KeptRecord}

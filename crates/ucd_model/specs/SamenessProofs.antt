@@ -1,41 +1,37 @@
 -- Proofs of the laws of equality as a test.
---
 -- members_are_told, records_are_told, facts_are_told, sets_are_told, kept_records_are_told   the laws of the same names
 -- same_image-decides, same_cores-decides, same_flags-decides, same_kind-decides   the parts of the tests decide equality
-use Rattle.std.proofs.Common.{◌≡◌, ℕ, zero, suc, ◌<◌, ◌^◌, Bool, true, ◌&&◌, ◌==◌, List, [], ◌∷◌, length, slice_index_or, refl, sym, ap, arith, inl, inr}
+use Rattle.std.proofs.Common.{◌≡◌, ℕ, zero, suc, ◌<◌, Bool, true, ◌&&◌, ◌==◌, List, [], ◌∷◌, length, slice_index_or, refl, sym, ap, arith, bytes_eq, subst}
 use mathlib.Core.Path.{fun_ext}
 use Rattle.std.specs.Bool.{Decides, beq}
 use Rattle.std.specs.Cmp.{booleans_Decides, unsigned_Decides}
 use Rattle.std.specs.List.{Contains, list_all}
-use Rattle.std.specs.Str.{bytes_eq}
-use Rattle.std.proofs.lemmas.Bool.{true≢false, eqb-true, eq-eqb, or_cases, or_left, or_right, and_from}
+use Rattle.std.proofs.lemmas.Bool.{true≢false, eqb-true, eq-eqb, or_left, or_right, and_from}
 use Rattle.std.proofs.lemmas.Bool.Decides.{Decides-and}
 use Rattle.std.proofs.lemmas.Slice.Eq.{bytes_eq-Decides}
+use Rattle.std.proofs.lemmas.List.Folds.{Any-from_list_any}
 use Rattle.ucd_facts.specs.Enumerations.{categories, kinds, place_of_kind, flags, quick_values, place_of_quick}
 use Rattle.ucd_facts.specs.EnumerationProofs.{enumerates_categories, enumerates_kinds, enumerates_flags, enumerates_core_properties, enumerates_quick_values, true_of_each, place-decides}
 use Rattle.ucd_facts.specs.Facts.{Facts}
+use Rattle.ucd_facts.specs.declared.decomposition.Kind.{Kind}
+use Rattle.ucd_facts.specs.declared.image.Image.{Image}
+use Rattle.ucd_facts.specs.declared.image.Image.TheVariants.{Same, To}
 use Rattle.ucd_facts.specs.Predicates.{category_place, core_properties}
 use Rattle.ucd_model.specs.Records.{Record}
 use Rattle.ucd_facts.specs.SetProofs.{core_sets_are_told, flag_sets_are_told}
 use Rattle.ucd_facts.specs.Sets.{flag_place, core_place}
 use Rattle.ucd_model.specs.Sameness.{is_in, same_image, same_cores, same_flags, same_record, same_row, same_simple, same_images, same_marks, same_facts, MembersAreTold, RecordsAreTold, FactsAreTold, SetsAreTold, KeptRecordsAreTold}
 use Rattle.ucd_facts.specs.declared.category.Category.{Category}
-use Rattle.ucd_facts.specs.declared.decomposition.Kind.{Kind}
 use Rattle.ucd_facts.specs.declared.form.Quick.{Quick}
-use Rattle.ucd_facts.specs.declared.image.Image.{Image}
-use Rattle.ucd_facts.specs.declared.image.Image.TheVariants.{Same, To}
 use Rattle.ucd_facts.specs.declared.property.Flag.{Flag}
 use Rattle.ucd_facts.specs.declared.property.Core.{Core}
 
 -- ---- members
 
 any_contains : (xs : List ℕ) (c : ℕ) → is_in xs c ≡ true → Contains xs c
-any_contains [] c e = absurd (true≢false (sym e))
-any_contains (x ∷ xs) c e =
-    elim (or_cases (x == c) (is_in xs c) e) [
-      | inl here ↦ (0, omega arith, eqb-true x c here)
-      | inr later ↦ let has = any_contains xs c later in (suc has.0, omega (arith, has.1), has.2)
-    ]
+any_contains xs c e =
+    let found = Any-from_list_any (λ x. x == c) xs e in
+    subst (Contains xs) (eqb-true found.1 c found.4) (found.0, found.2, found.3)
 
 contains_any : (xs : List ℕ) (k c : ℕ) → k < length xs → slice_index_or xs k c ≡ c → is_in xs c ≡ true
 contains_any [] k c lt at = absurd (omega (arith, lt))

@@ -17,10 +17,8 @@
 -- broken_at F c            c with the first rule that it breaks; None where there is no c, and where it breaks none
 -- first_broken_below n F   the least point below n that breaks a rule, with its first rule
 -- first_broken F           the same, among all points
-use Rattle.std.specs.Prelude.{ℕ, Bool, true, false, ◌&&◌, ◌||◌, not, List, [], ◌∷◌, Option, Some, None, is_some, length, nat_lt, ◌==◌, if◌then◌else◌, find}
+use Rattle.std.specs.Prelude.{ℕ, Bool, true, false, ◌&&◌, ◌||◌, not, List, [], ◌∷◌, Option, Some, None, is_some, length, nat_lt, ◌==◌, if◌then◌else◌, find, option_map, bytes_eq}
 use Rattle.std.specs.List.{list_any, range_with_len}
-use Rattle.std.specs.Option.{option_map}
-use Rattle.std.specs.Str.{bytes_eq}
 use Rattle.ucd_facts.specs.Composites.{primary, pair_of}
 use Rattle.ucd_facts.specs.Expansion.{full}
 use Rattle.ucd_points.specs.Limits.{point_count}

@@ -7,15 +7,13 @@
 -- IsChain F compat c ds   the code points ds are a chain of mappings from c on: the first is a member of the mapping of c that
 --                    counts, and each other one a member of the mapping of the one before it
 -- HasLesser F c      c is a primary composite, and a lesser code point is one with the same mapping
---
 -- ValidIsUnbroken    a release is valid exactly where `first_broken` finds no code point
 -- BrokenIsLeast      it finds b exactly where b is the least code point that has no record, with its first rule
 -- ValidExpands       in a valid release each code point has its expansion of both kinds
 -- EndlessHasChain    a code point has no expansion exactly where a chain of eight mappings begins at it
 -- HiddenHasLesser    a code point is a hidden composite exactly where it has a lesser one with its mapping
 -- ValidPairIsSingle  in a valid release two primary composites with one mapping are one
-use Rattle.std.specs.Prelude.{◌≡◌, ℕ, ◌<◌, Bool, true, List, [], ◌∷◌, length, Some, None, Ok, Err, ◌↔◌, ⊤}
-use Rattle.std.specs.List.{Contains}
+use Rattle.std.specs.Prelude.{◌≡◌, ℕ, ◌<◌, Bool, true, List, [], ◌∷◌, length, Some, None, Ok, Err, ◌↔◌, ⊤, Contains}
 use Rattle.ucd_points.specs.Limits.{point_count}
 use Rattle.ucd_facts.specs.Facts.{Facts}
 use Rattle.ucd_facts.specs.Expansion.{counted, full, expansion}

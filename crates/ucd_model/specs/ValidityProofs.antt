@@ -9,9 +9,8 @@
 -- broken-rules          a code point that breaks no rule keeps each of them
 -- first_broken-valid    in a valid release no code point is found
 -- first_broken-least    the least code point without a record is found, with its first rule
-use Rattle.std.proofs.Common.{◌≡◌, ℕ, zero, suc, ◌<◌, Bool, true, false, if◌then◌else◌, ◌≢◌, List, [], ◌∷◌, length, slice_index_or, Option, Some, None, is_some, Ok, Err, find, refl, sym, ap, subst, ◌∙◌, arith, ◌⊎◌, inl, inr}
+use Rattle.std.proofs.Common.{◌≡◌, ℕ, zero, suc, ◌<◌, Bool, true, false, if◌then◌else◌, ◌≢◌, List, [], ◌∷◌, length, slice_index_or, Option, Some, None, is_some, Ok, Err, find, refl, sym, ap, subst, ◌∙◌, arith, ◌⊎◌, inl, inr, option_map}
 use Rattle.std.specs.List.{Contains, range_with_len}
-use Rattle.std.specs.Option.{option_map}
 use Rattle.std.proofs.lemmas.Bool.{cases_lt, and_parts, and_from, or_parts, true≢false}
 use Rattle.std.proofs.lemmas.Bool.Decides.{nat_tests}
 use Rattle.ucd_points.specs.Limits.{point_count}

@@ -1,5 +1,4 @@
 -- Answers that are what was expected, or in its place a fault.
---
 -- IsToldBy fault expected      the fault, where there is one, is what was expected; None says nothing
 -- AnswersBy shown fault r e    the answer r shows what was expected, e, or is the fault in its place: `shown` is what a value
 --                              shows, and `fault` the fault that an error is; None of an error that says nothing, as that memory ran out

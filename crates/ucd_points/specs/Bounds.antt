@@ -1,5 +1,4 @@
 -- Spans of code points, as contracts see them. UAX #44, section 4.2.3.
---
 -- Bounds       the code points from lo to hi, both of them in it; none where hi is less than lo
 -- within c s   c lies in the span s: not below its first code point, and not above its last
 use Rattle.std.specs.Prelude.{ℕ, Bool, ◌&&◌, nat_le}

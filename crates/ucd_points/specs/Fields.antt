@@ -1,5 +1,4 @@
 -- What the fields of a line spell. UAX #44, section 4.2.
---
 -- trim_start bs               the bytes without the white space, space and tab, at their beginning
 -- trim_end bs                 the bytes without the white space at their end
 -- trim bs                     the bytes without white space at either end
@@ -44,9 +43,8 @@
 -- class_of bs                 the decimal number from 0 to 254 that one to three digits write; None for all other bytes
 -- some_point c                a mapping to c, where bytes spell it; None where they spell no code point
 -- case_of bs                  no bytes: there is none; a code point: that one; None for all other bytes
-use Rattle.std.specs.Prelude.{◌≡◌, ◌⊎◌, ℕ, ◌+◌, ◌-◌, ◌*◌, ◌≤◌, Bool, false, ◌&&◌, ◌||◌, not, List, [], ◌∷◌, ◌++◌, length, take, drop, map, Option, Some, None, ◌==◌, nat_lt, nat_le, if◌then◌else◌, unwrap_or, codes, fold}
+use Rattle.std.specs.Prelude.{◌≡◌, ◌⊎◌, ℕ, ◌+◌, ◌-◌, ◌*◌, ◌≤◌, Bool, false, ◌&&◌, ◌||◌, not, List, [], ◌∷◌, ◌++◌, length, take, drop, map, Option, Some, None, ◌==◌, nat_lt, nat_le, if◌then◌else◌, unwrap_or, codes, fold, bytes_eq}
 use Rattle.std.specs.List.{slice_split, suffix_len, before_first, after_first, position_or_len, list_all}
-use Rattle.std.specs.Str.{bytes_eq}
 use Rattle.ucd_points.specs.Bounds.{Bounds}
 use Rattle.ucd_points.specs.Lines.{is_blank, unindented}
 use Rattle.ucd_points.specs.MissingLines.{missing_rest}

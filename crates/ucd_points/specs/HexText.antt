@@ -1,5 +1,4 @@
 -- The text of code points and spans. UAX #44, section 4.2.
---
 -- hex_digit d     the byte of the hexadecimal digit that is worth d, below 16, in upper case
 -- four_digits c   the digits of c that are worth 4096, 256, 16 and 1; what is above them is left out
 -- hex_text c      the hexadecimal digits of a code point in upper case: four, from 10000 on five, from 100000 on six

@@ -1,15 +1,12 @@
 -- What the text of a code point is: the fewest hexadecimal digits that spell it, but no fewer than four.
---
 -- IsUpperHex b                b is a byte from `0` to `9` or from `A` to `F`
---
 -- HexTextHasFourToSixDigits   the text has four, five or six bytes
 -- HexTextHasNoSpareDigit      where it has more than four, the first is not the digit 0, for numbers below 16 ^ 6
 -- HexTextIsUpperCase          each byte is a digit in upper case
 -- HexTextSpellsItsNumber      read as hexadecimal digits, the text of a number is that number
 -- HexTextSpellsItsPoint       read as a code point, the text of a code point is that point
 -- SpanTextSpellsItsSpan       read as a span, the text of a span is that span
-use Rattle.std.specs.Prelude.{◌≡◌, ◌≢◌, ◌≤◌, ◌<◌, ◌^◌, ◌⊎◌, ℕ, Some, length, slice_get}
-use Rattle.std.specs.List.{All}
+use Rattle.std.specs.Prelude.{◌≡◌, ◌≢◌, ◌≤◌, ◌<◌, ◌^◌, ◌⊎◌, ℕ, Some, length, slice_get, All}
 use Rattle.ucd_points.specs.Bounds.{Bounds}
 use Rattle.ucd_points.specs.Fields.{hex_number, point_of, span_of}
 use Rattle.ucd_points.specs.HexText.{hex_text, span_text}

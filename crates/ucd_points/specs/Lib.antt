@@ -9,3 +9,4 @@ pub mod HexTextLaws
 pub mod HexTextProofs
 pub mod Stretches
 pub mod Answers
+pub mod PlainProofs

@@ -1,5 +1,4 @@
 -- Large numbers, which stay names in clauses.
---
 -- point_count   the number of code points: 10FFFF and one. The Unicode Standard, section 2.4
 -- file_limit    the greatest number of bytes of a source file
 use Rattle.std.specs.Prelude.{ℕ}

@@ -1,5 +1,4 @@
 -- The lines of a file. UAX #44, section 4.2.
---
 -- is_blank b              the byte is white space: space or tab
 -- is_lf b                 the byte is LF
 -- contents bytes          the contents of the lines in order: a line ends after LF, and what ends it, LF or CR LF, is not part of

@@ -1,6 +1,5 @@
 -- Lines that look like comments and are rows: `# @missing: SPAN; NAME` gives the value of the code points that no other row covers.
 -- UAX #44, section 4.2.10.
---
 -- takes_missing file           the file has such rows: Scripts.txt and WordBreakProperty.txt
 -- mark                         `@missing:`
 -- behind_mark bs               what stands behind the mark, with white space before it or none; None where there is no mark

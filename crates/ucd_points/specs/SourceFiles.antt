@@ -1,5 +1,4 @@
 -- The source files in the order in which the bench reads them. UAX #44, section 5.3.
---
 -- source_files         the nine files
 -- source_path file     where a source file lies below the folder of a release
 -- file_place file      the place of a file among them, from 0

@@ -1,5 +1,4 @@
 -- Stretches of code points of which one thing holds.
---
 -- HoldsTo P c last   last is not before c, and P holds of all numbers from c to last
 use Rattle.std.specs.Prelude.{ℕ, ◌≤◌}
 

@@ -1,9 +1,6 @@
 -- The first of the commands that are left, and those behind it.
-use Rattle.std.proofs.Common.{◌≡◌, ℕ, List, [], ◌∷◌, Result, Ok, Err, fold, refl, sym, ap, subst, ◌∙◌}
-use Rattle.std.specs.Borrow.{Bor}
-use Rattle.std.specs.Prelude.{IfOk, IfErr}
-use Rattle.std.specs.List.{All}
-use Rattle.std.proofs.lemmas.List.Elements.{All-head, All-tail}
+use Rattle.std.proofs.Common.{◌≡◌, ℕ, List, [], ◌∷◌, Result, Ok, Err, fold, refl, sym, ap, subst, ◌∙◌, Bor, IfOk, IfErr, All}
+use Rattle.std.proofs.lemmas.List.Elements.{All-tail}
 use Rattle.release_rows.specs.FileItems.{FileItem}
 use Rattle.script_lines.specs.Groups.{IsWellFormed}
 use Rattle.script_lines.specs.declared.command.Command.{Command}
@@ -17,9 +14,6 @@ use Rattle.ucdshop_core.specs.Carrying.{session_on}
 use Rattle.ucdshop_core.specs.Counting.{CommandCounts, SessionCounts}
 use Rattle.ucdshop_core.specs.Session.{Session, step, step_by}
 use Rattle.ucdshop_core.specs.declared.carried.Carried.{Carried}
-
-pub ready_first : (commands : List Command) (first : Command) (behind : List Command) → commands ≡ first ∷ behind → All IsWellFormed commands → IsWellFormed first
-ready_first commands first behind e ready = All-head IsWellFormed first behind (subst (All IsWellFormed) e ready)
 
 pub ready_behind : (commands : List Command) (first : Command) (behind : List Command) → commands ≡ first ∷ behind → All IsWellFormed commands → All IsWellFormed behind
 ready_behind commands first behind e ready = All-tail IsWellFormed first behind (subst (All IsWellFormed) e ready)

@@ -1,8 +1,8 @@
 -- How far a run raises its counter, from what is judged to what was seen.
 use Rattle.std.proofs.Common.{◌≡◌, ◌≤◌, ℕ, ◌+◌, ◌*◌, Bool, true, false, List, [], map, Option, Some, None, Result, Ok, Err, refl, sym, subst, arith, inl, inr}
 use Rattle.ucd_points.specs.Limits.{point_count}
-use Rattle.ucdshop_core.specs.Counting.{FormCounts, PlannedCounts, SessionCounts, StatusCounts, StopCounts, VerdictCounts, opened_limit, releases_of}
-use Rattle.ucdshop_core.specs.Judging.{given_verdict, inputs_of}
+use Rattle.ucdshop_core.specs.Counting.{FormCounts, PlannedCounts, StatusCounts, StopCounts, VerdictCounts, opened_limit, releases_of}
+use Rattle.ucdshop_core.specs.Judging.{inputs_of}
 use Rattle.ucdshop_core.specs.declared.inputs.Inputs.{Inputs as InputsMade}
 use Rattle.run_endings.specs.Ends.{Ends}
 use Rattle.run_endings.specs.Outcome.{Finished, ShelfSeen, SinkSeen, StoppedWith, status_if}
@@ -18,10 +18,8 @@ use Rattle.run_endings.specs.Endings.{Contents, Seen, Sees, paths_read}
 use Rattle.ucdshop_core.specs.Jobs.{Job, needed}
 use Rattle.ucdshop_core.specs.Run.{Inputs, job_verdict, ucdshop}
 use Rattle.ucdshop_core.specs.Session.{started}
-use Rattle.ucdshop_core.specs.declared.given.Given.{Given}
 use Rattle.std.proofs.lemmas.List.{length-map}
 use Rattle.ucdshop_core.proofs.CarryingLemmas.{session_counts_none}
-use Rattle.ucdshop_core.proofs.VerdictLemmas.{Decides}
 
 -- at least one release is opened
 one_of : (previous : Option (List ℕ)) → point_count ≤ releases_of previous * point_count
@@ -36,16 +34,7 @@ pub verdict_opened : (job : Job) (v : Result Inputs (List ℕ)) (old new : ℕ) 
 verdict_opened job (Ok inputs) old new le = (new, le, session_counts_none (started inputs.files) inputs.commands new)
 verdict_opened job (Err line) old new le = le
 
--- the commands are
-pub verdict_carried : (job : Job) (v : Result Inputs (List ℕ)) (inputs : Inputs) (old opened new : ℕ) → v ≡ Ok inputs → opened ≤ old + opened_limit job
-    → SessionCounts (started inputs.files) inputs.commands opened new → VerdictCounts job v old new
-verdict_carried job v inputs old opened new is le counts = subst (λ (w : Result Inputs (List ℕ)). VerdictCounts job w old new) (sym is) (opened, le, counts)
-
 -- ---- what was seen
-
-pub seen_counts : (tells : Bool) (holds : Contents) (job : Job) (given : Given) (old new : ℕ) → Decides tells holds job given
-    → VerdictCounts job (given_verdict job given) old new → Sees tells holds (needed job) (λ seen. FormCounts (Some job) seen old new)
-seen_counts tells holds job given old new sees counts = (sees.0, sees.1, subst (λ (v : Result Inputs (List ℕ)). VerdictCounts job v old new) sees.2 counts)
 
 pub unread_counts : (tells : Bool) (holds : Contents) (job : Job) (n : ℕ) → Sees tells holds (needed job) (λ seen. FormCounts (Some job) seen n n)
 unread_counts tells holds job n =

@@ -1,13 +1,11 @@
 -- The lines above a piece of a file are counted by their LFs.
-use Rattle.std.proofs.Common.{◌≡◌, ℕ, ◌+◌, Bool, true, false, cond, List, [], ◌∷◌, ◌++◌, map, count_by, refl, sym, ap, subst, ◌∙◌, arith, append_assoc}
-use Rattle.std.specs.List.{flat_map}
+use Rattle.std.proofs.Common.{◌≡◌, ℕ, ◌+◌, Bool, true, false, cond, List, [], ◌∷◌, ◌++◌, map, count_by, refl, sym, ap, subst, ◌∙◌, arith, append_assoc, flat_map}
 use Rattle.std.proofs.lemmas.Bool.{or_parts}
 use Rattle.std.proofs.lemmas.List.Concat.{flat_map-cons}
 use Rattle.std.proofs.lemmas.List.Sums.{sum_by-append, sum_by-cons}
-use Rattle.ucd_lines.specs.Laws.{AreLines, NoLineFeedInside, OnlyTheLastIsUnended, EndingsAreToldApart}
+use Rattle.ucd_lines.specs.Laws.{AreLines, NoLineFeedInside, OnlyTheLastIsUnended, EndingsAreToldApart, lines_behind}
 use Rattle.ucd_points.specs.Lines.{LineItem, LineEnding, unended, lf, cr_lf, ending_bytes, item_bytes, items_of, is_lf, holds_line_feed}
-use Rattle.ucd_points.specs.declared.files.SourceFile.{SourceFile}
-use Rattle.release_rows.specs.FileItems.{FileItem, lines_of}
+use Rattle.release_rows.specs.FileItems.{FileItem, lines_of, SourceFile}
 use Rattle.release_rows.specs.Loading.{file_item}
 use Rattle.release_rows.specs.Pieces.{Lines, one_line, opens_range, pieces, piece_bytes, piece_lines, two_lines}
 use Rattle.ucdshop_core.specs.LineLaws.{line_feeds, LinesAreCounted}
@@ -65,10 +63,6 @@ counted file (a ∷ b ∷ rest) (p ∷ ps) piece below h e = by (opens_range fil
         subst (λ q. lines_of (map (file_item file) (q ∷ ps)) ≡ line_feeds (q ∷ ps)) head (more_lines file (one_line a) ps first (one tail))
 
 -- ---- the lines of a text
-
-lines_behind : (bytes : List ℕ) (front lines : List LineItem) → NoLineFeedInside → OnlyTheLastIsUnended → EndingsAreToldApart → items_of bytes ≡ front ++ lines → AreLines lines
-lines_behind bytes front [] feeds ends told e = tt
-lines_behind bytes front (line ∷ lines) feeds ends told e = (record { no_line_feed = feeds bytes front line lines e; last = ends bytes front line lines e; no_return = told bytes front line lines e }, lines_behind bytes (front ++ line ∷ []) lines feeds ends told (e ∙ sym (append_assoc front (line ∷ []) lines)))
 
 pub lines_are_counted : NoLineFeedInside → OnlyTheLastIsUnended → EndingsAreToldApart → LinesAreCounted
 lines_are_counted feeds ends told file bytes above piece below e = counted file (items_of bytes) above piece below (lines_behind bytes [] (items_of bytes) feeds ends told refl) e

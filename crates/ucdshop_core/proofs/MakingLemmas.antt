@@ -1,10 +1,9 @@
 -- How many rows there are.
 use Rattle.std.proofs.Common.{◌≡◌, ℕ, List, length, map, sym, ap, ◌∙◌}
 use Rattle.std.proofs.lemmas.List.{length-map}
-use Rattle.release_rows.specs.FileItems.{FileItem, rows_in}
+use Rattle.release_rows.specs.FileItems.{FileItem, rows_in, Row}
 use Rattle.release_rows.specs.FileLemmas.{rows_of_numbered}
 use Rattle.release_rows.specs.Releases.{rows_at}
-use Rattle.ucd_facts.specs.declared.row.Row.{Row}
 
 -- there are as many rows with a number as without
 pub numbered_count : (items : List FileItem) → length (rows_at items) ≡ length (rows_in items)

@@ -1,11 +1,8 @@
 -- The paths of the files that a run writes differ, so none of them takes the place of another.
---
 -- names_of made part      the paths of a part that is written, below the folder
 -- each_form P words job   what holds of the job of each form holds of what the words ask for
-use Rattle.std.proofs.Common.{◌≡◌, ℕ, Bool, true, false, List, [], ◌∷◌, ◌++◌, map, Option, Some, None, if◌then◌else◌, codes, refl, ap, subst, ◌∙◌}
+use Rattle.std.proofs.Common.{◌≡◌, ℕ, Bool, true, false, List, [], ◌∷◌, ◌++◌, map, Option, Some, None, if◌then◌else◌, codes, refl, ap, subst, ◌∙◌, flat_map, bytes_eq}
 use Rattle.std.proofs.lemmas.List.{map-append}
-use Rattle.std.specs.List.{flat_map}
-use Rattle.std.specs.Str.{bytes_eq}
 use Rattle.ucd_facts.specs.Enumerations.{derived_files}
 use Rattle.ucd_facts.specs.Names.{derived_path}
 use Rattle.ucd_points.specs.SourceFiles.{source_files, source_path}

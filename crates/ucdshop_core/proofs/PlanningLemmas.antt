@@ -1,6 +1,5 @@
 -- What a run makes before it writes, from the verdict on what it works on.
-use Rattle.std.proofs.Common.{◌≡◌, ◌≤◌, ◌||◌, nat_lt, Bool, List, length, ℕ, map, Option, Some, None, Result, Ok, Err, refl, sym, ap, subst, ◌∙◌}
-use Rattle.std.specs.Prelude.{IfOk}
+use Rattle.std.proofs.Common.{◌≡◌, ◌≤◌, ◌||◌, nat_lt, Bool, List, length, ℕ, map, Option, Some, None, Result, Ok, Err, refl, sym, ap, subst, ◌∙◌, IfOk}
 use Rattle.release_rows.specs.FileItems.{FileItem}
 use Rattle.ucdshop_core.specs.Judging.{given_verdict, inputs_of}
 use Rattle.ucdshop_core.specs.Making.{data_rows}

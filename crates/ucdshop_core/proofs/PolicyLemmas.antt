@@ -1,6 +1,5 @@
 -- The report of releases in which nothing is prepared.
-use Rattle.std.proofs.Common.{◌≡◌, List, Result, ap, subst, ◌∙◌}
-use Rattle.std.specs.Prelude.{IfOk}
+use Rattle.std.proofs.Common.{◌≡◌, List, Result, ap, subst, ◌∙◌, IfOk}
 use Rattle.edit_session.specs.Benches.{HasNothingPrepared}
 use Rattle.release_rows.specs.Releases.{ReleaseItems}
 use Rattle.run_inputs.specs.Verdict.{release_items}

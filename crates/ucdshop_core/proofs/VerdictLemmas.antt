@@ -1,7 +1,5 @@
 -- The verdict on what is given to a job is the verdict on what was seen.
-use Rattle.std.proofs.Common.{◌≡◌, ℕ, ◌+◌, Bool, List, [], ◌++◌, map, Option, Some, None, Result, Ok, Err, refl, sym, ap, ◌∙◌, arith}
-use Rattle.std.specs.List.{flat_map}
-use Rattle.std.specs.Prelude.{option_to_list}
+use Rattle.std.proofs.Common.{◌≡◌, ℕ, ◌+◌, Bool, List, [], ◌++◌, map, Option, Some, None, Result, Ok, Err, refl, sym, ap, ◌∙◌, arith, flat_map, option_to_list}
 use mathlib.Core.Path.{fun_ext}
 use Rattle.ucd_points.specs.SourceFiles.{file_place}
 use Rattle.release_rows.specs.FileItems.{FileItem}

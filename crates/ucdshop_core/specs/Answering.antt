@@ -1,11 +1,9 @@
 -- Answering the questions at the front of commands.
---
 -- AnswersFront files from count commands carried rest   the questions at the front of the commands are answered on these files, and
 --                             the rest is left: the session that then stands, and the rest, give what the session `from` and all
 --                             the commands give, and may raise the counter of steps as far; where `count` were counted before,
 --                             each is counted; the rest is ready
-use Rattle.std.specs.Prelude.{◌≡◌, ◌≤◌, ℕ, ◌+◌, List, fold, length}
-use Rattle.std.specs.List.{All}
+use Rattle.std.specs.Prelude.{◌≡◌, ◌≤◌, ℕ, ◌+◌, List, fold, length, All}
 use Rattle.release_rows.specs.FileItems.{FileItem}
 use Rattle.script_lines.specs.Groups.{IsWellFormed}
 use Rattle.script_lines.specs.declared.command.Command.{Command}

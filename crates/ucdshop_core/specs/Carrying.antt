@@ -1,12 +1,10 @@
 -- Carrying out the commands of a script on a bench.
---
 -- session_on files carried    the session that stands so: these files, the log, the answers and the counts
 -- question_command line text  the command that asks a question
 -- session_of bench carried    the session that stands so: the files of the bench, the log, the answers and the counts
 -- counted carried             how many commands are counted
 use Rattle.std.specs.Prelude.{ℕ, ◌+◌, List}
-use Rattle.release_rows.specs.FileItems.{FileItem}
-use Rattle.release_rows.specs.Releases.{ReleaseItems}
+use Rattle.release_rows.specs.Releases.{ReleaseItems, FileItem}
 use Rattle.script_lines.specs.declared.command.Command.{Command}
 use Rattle.script_lines.specs.declared.command.What.TheVariants.{Question}
 use Rattle.ucdshop_core.specs.Session.{Session}

@@ -1,5 +1,4 @@
 -- How far a run raises its counter of steps. A step is the derivation of one code point.
---
 -- CommandCounts files what old new   a group raises the counter by at most the number of code points that depend on it, and not where
 --                              an operation is refused; a question leaves it
 -- SessionCounts s commands old new   so does each of the commands, in order, on the files as they are then

@@ -1,5 +1,4 @@
 -- The verdict on what was read, of which no more was read than decides it, is the verdict on what was seen.
---
 -- all_three files commands earlier   the three together, or the refusal of the first that has one
 use Rattle.std.proofs.Common.{◌≡◌, ℕ, List, map, Option, Some, None, Result, Ok, refl, ap, ◌∙◌}
 use Rattle.release_rows.specs.FileItems.{FileItem}

@@ -1,11 +1,9 @@
 -- What the words of a run ask for, as the code has it.
---
 -- path_at place           the path of a place: as it is named, or of a name below a folder
 -- job_of job              the job that stands there
 -- AsksFor job form        the job is there exactly where the form is, and stands for it
 -- IsListed job            a release is made of a number from 1 to 50, if at all
-use Rattle.std.specs.Prelude.{◌≡◌, ℕ, List, Option, Some, None}
-use Rattle.std.specs.Option.{option_map}
+use Rattle.std.specs.Prelude.{◌≡◌, ℕ, List, Option, Some, None, option_map}
 use Rattle.run_endings.specs.Paths.{path_in}
 use Rattle.ucdshop_core.specs.Jobs.{Job}
 use Rattle.ucdshop_core.specs.Making.{IsInRange}

@@ -1,5 +1,4 @@
 -- What is asked for, by the words.
---
 -- Job                              what is asked for: made, the number of which the release and its script are made, None where they
 --                                  are read; folder, that of the release; script, the path of the script, where there is one;
 --                                  previous, the folder of an earlier release, where there is one; output, the folder that is
@@ -19,9 +18,7 @@
 -- made_paths folder made           the paths of the release and the script that are made of a number; none where there is none
 -- part_paths job part              the paths of a part that is written
 -- output_paths job                 the paths of all files that are written, in order
-use Rattle.std.specs.Prelude.{ℕ, List, [], ◌∷◌, ◌++◌, map, Option, Some, None, option_to_list, if◌then◌else◌, codes}
-use Rattle.std.specs.List.{flat_map}
-use Rattle.std.specs.Str.{bytes_eq}
+use Rattle.std.specs.Prelude.{ℕ, List, [], ◌∷◌, ◌++◌, map, Option, Some, None, option_to_list, if◌then◌else◌, codes, flat_map, bytes_eq}
 use Rattle.ucd_facts.specs.Enumerations.{derived_files}
 use Rattle.run_inputs.specs.Paths.{derived_in, sources_in}
 use Rattle.ucdshop_core.specs.Making.{number_of}

@@ -1,12 +1,10 @@
 -- Judging the texts that a run works on.
---
 -- IsMadeForJob given job          what was made is the release of the job's number; nothing where it has none
 -- given_verdict job given   what is held of what is given gives, or the line that refuses it
 -- behind_verdict job held files   what is held gives behind the release, whose files are these: with the commands and the earlier release
 -- earlier_inputs job held files commands   the same behind the commands: with the earlier release
 -- inputs_of inputs          what the benches' files and the commands stand for
-use Rattle.std.specs.Prelude.{◌≡◌, ℕ, List, Result, Ok}
-use Rattle.std.specs.Option.{option_map}
+use Rattle.std.specs.Prelude.{◌≡◌, ℕ, List, Result, Ok, option_map}
 use Rattle.release_rows.specs.FileItems.{FileItem}
 use Rattle.script_lines.specs.declared.command.Command.{Command}
 use Rattle.run_endings.specs.Endings.{Seen}

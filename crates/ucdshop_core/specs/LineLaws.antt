@@ -1,13 +1,10 @@
 -- The line of a refusal is the one that an editor shows.
---
 -- line_feeds pieces    how many LFs are among the bytes of the pieces
 -- LinesAreCounted      the pieces above a piece of a file have as many lines as LFs are among their bytes, so that the number of its
 --                      first line is one more than the LFs before it
-use Rattle.std.specs.Prelude.{◌≡◌, ℕ, List, ◌∷◌, ◌++◌, map, count_by}
-use Rattle.std.specs.List.{flat_map}
+use Rattle.std.specs.Prelude.{◌≡◌, ℕ, List, ◌∷◌, ◌++◌, map, count_by, flat_map}
 use Rattle.ucd_points.specs.Lines.{is_lf, items_of}
-use Rattle.ucd_points.specs.declared.files.SourceFile.{SourceFile}
-use Rattle.release_rows.specs.FileItems.{lines_of}
+use Rattle.release_rows.specs.FileItems.{lines_of, SourceFile}
 use Rattle.release_rows.specs.Loading.{file_item}
 use Rattle.release_rows.specs.Pieces.{Lines, pieces, piece_bytes}
 

@@ -1,5 +1,4 @@
 -- The release that `make` makes, and what its summary counts.
---
 -- number_limit             the greatest number that a release is made of
 -- limited n                the number, where it is from 1 to the limit
 -- number_of word           the number from 1 to the limit that one or two digits write without a leading zero; None for all other

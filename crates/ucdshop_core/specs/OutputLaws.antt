@@ -1,5 +1,4 @@
 -- The files that a run writes lie at paths of their own.
---
 -- PathsAreOfTheWords      the words alone give the paths of the files that are written, in order
 -- OutputsHoldTheirBytes   once all files are put of a job that words ask for, the path of each holds the bytes of that file: none takes
 --                         the place of another

@@ -1,5 +1,4 @@
 -- Where the files that this program writes lie below a folder.
---
 -- log_in folder            the path of the log below a folder
 -- sets_in folder           the path of the answers to questions below a folder
 -- script_in folder         the path of a script that is made below a folder

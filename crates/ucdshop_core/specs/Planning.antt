@@ -1,5 +1,4 @@
 -- What a run makes before it writes, by its job.
---
 -- CountsRows made rows files      where a release is made, UnicodeData.txt has so many rows among these files
 use Rattle.std.specs.Prelude.{◌≡◌, ℕ, List, Option, Some, None, ⊤}
 use Rattle.release_rows.specs.FileItems.{FileItem}

@@ -1,5 +1,4 @@
 -- The lines that a run prints, each ended by LF.
---
 -- usage                    of words that have no listed form
 -- Counts                   how many groups were accepted, commands refused and sets answered, and how many breaks of policies there
 --                          are
@@ -9,8 +8,7 @@
 --                          NFKC_Casefold of their own afterwards
 -- made_release number rows what it says of the release: the number, and how many rows UnicodeData.txt has
 -- made_summary counts      the line that says them
-use Rattle.std.specs.Prelude.{ℕ, List, ◌++◌, codes}
-use Rattle.std.specs.Fmt.{decimal}
+use Rattle.std.specs.Prelude.{ℕ, List, ◌++◌, codes, decimal}
 use Rattle.ucd_model.specs.DerivedText.{line_end}
 
 abbrev pub usage : List ℕ

@@ -47,12 +47,10 @@
 -- judged job verdict               Finishes with the ending on what was judged; or Refuses with the line that refuses it
 -- expected_of job seen             what is expected of a job, by what was seen at the paths that it needs
 -- ucdshop                          this program
-use Rattle.std.specs.Prelude.{ℕ, ◌+◌, ◌||◌, List, [], ◌∷◌, ◌++◌, length, map, Option, Some, None, Result, Ok, Err, nat_lt, option_to_list}
-use Rattle.std.specs.List.{flat_map}
+use Rattle.std.specs.Prelude.{ℕ, ◌+◌, ◌||◌, List, [], ◌∷◌, ◌++◌, length, map, Option, Some, None, Result, Ok, Err, nat_lt, option_to_list, flat_map}
 use Rattle.ucd_facts.specs.Enumerations.{derived_files}
-use Rattle.ucd_points.specs.declared.files.SourceFile.{SourceFile}
 use Rattle.ucd_points.specs.SourceFiles.{source_files}
-use Rattle.release_rows.specs.FileItems.{FileItem}
+use Rattle.release_rows.specs.FileItems.{FileItem, SourceFile}
 use Rattle.script_lines.specs.declared.command.Command.{Command}
 use Rattle.release_maker.specs.MadeTexts.{source_text, script_text}
 use Rattle.stability_policies.specs.ReportTexts.{report_text}

@@ -1,5 +1,4 @@
 -- What a run is asked for, reads, writes and tells, at small examples. The lines are those that the manual prints.
---
 -- words                    the words of a command line, cut at its spaces
 -- nine_absent              nine files that are not there
 use Rattle.std.proofs.Common.{◌≡◌, ℕ, List, [], ◌∷◌, map, Some, None, ◌==◌, refl, codes}

@@ -1,5 +1,4 @@
 -- The commands of a script, carried out one after the other on the files of a release.
---
 -- set_line line count       of a question that was answered: how many code points are members
 -- unasked_line line fault   the line that says it
 -- Session                   the files as the commands so far leave them, the log, the answers to the questions, how many groups were
@@ -13,9 +12,7 @@
 --                           and is counted, and the members that are answered are a section of the answers
 -- step s command            the session after one more command, which is answered on the files as they are then
 -- session files commands    the session after all commands
-use Rattle.std.specs.Prelude.{ℕ, ◌+◌, List, [], ◌++◌, length, Result, Ok, Err, codes}
-use Rattle.std.specs.Fmt.{decimal}
-use Rattle.std.specs.List.{fold}
+use Rattle.std.specs.Prelude.{ℕ, ◌+◌, List, [], ◌++◌, length, Result, Ok, Err, codes, decimal, fold}
 use Rattle.ucd_points.specs.Bounds.{Bounds}
 use Rattle.release_rows.specs.FileItems.{FileItem}
 use Rattle.script_lines.specs.declared.command.Command.{Command}

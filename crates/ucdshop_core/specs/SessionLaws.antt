@@ -1,5 +1,4 @@
 -- A refused command changes nothing, and its line in the log says why.
---
 -- IsRefusedOn files what said   what a command asks for is refused on these files, and this is said of it: the rule, with the operation,
 --                          the code point or the byte
 -- with_refusal s line said   the session with one more line in the log and one more refusal; all else is as it was

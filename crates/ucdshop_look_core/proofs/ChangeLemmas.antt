@@ -1,8 +1,8 @@
 -- The records beside a bench stand for those of its files, and what is told of the commands that are left.
-use Rattle.std.proofs.Common.{◌≡◌, ◌≤◌, ◌<◌, ◌+◌, ℕ, zero, suc, Bool, true, false, cond, not, ◌||◌, List, [], ◌∷◌, ◌++◌, fold, length, get_or, drop, filter, Result, Ok, Err, codes, refl, sym, ap, subst, ◌∙◌, arith}
-use Rattle.std.specs.Fmt.{decimal}
+use Rattle.std.proofs.Common.{◌≡◌, ◌≤◌, ◌<◌, ◌+◌, ℕ, zero, suc, Bool, true, false, cond, not, ◌||◌, List, [], ◌∷◌, ◌++◌, fold, length, get_or, drop, filter, Result, Ok, Err, codes, refl, sym, ap, subst, ◌∙◌, arith, decimal}
 use Rattle.std.specs.List.{flat_map, list_any, range_with_len}
 use Rattle.std.proofs.lemmas.List.{append-nil, append_assoc, drop_all, drop_more}
+use Rattle.std.proofs.Math.Bool.{or_assoc, or-false}
 use Rattle.range_table.specs.Values.{SameValues, point_count-is}
 use Rattle.ucd_points.specs.Bounds.{Bounds}
 use Rattle.ucd_points.specs.Limits.{point_count}
@@ -14,8 +14,7 @@ use Rattle.edit_session.specs.Groups.{AppliesAs, differing, files_facts, group_a
 use Rattle.edit_session.specs.declared.accepted.Accepted.{Accepted}
 use Rattle.edit_session.specs.declared.apply_stop.ApplyStop.TheVariants.{Refused as Refuses}
 use Rattle.edit_session.specs.declared.apply_stop.Refused.{Refused}
-use Rattle.release_rows.specs.FileItems.{FileItem}
-use Rattle.release_rows.specs.Releases.{ReleaseItems}
+use Rattle.release_rows.specs.Releases.{ReleaseItems, FileItem}
 use Rattle.record_lines.specs.Earlier.{FollowingCatchesUp, updated}
 use Rattle.record_lines.specs.RecordTexts.{change_text}
 use Rattle.script_lines.specs.declared.command.Command.{Command}
@@ -94,14 +93,6 @@ told_on files next commands i command old new whole below is told_here leaves e 
     ∙ sym (ap (λ (all : List Stage). old ++ flat_map told all) (first_stage files commands i command below is))
     ∙ e
 
-or_assoc : (a b c : Bool) → ((a || b) || c) ≡ (a || (b || c))
-or_assoc true b c = refl
-or_assoc false b c = refl
-
-or_false : (b : Bool) → (b || false) ≡ b
-or_false true = refl
-or_false false = refl
-
 pub refused_on : (files next : List (List FileItem)) (commands : List Command) (i : ℕ) (command : Command) (old here new whole : Bool) → i < length commands → command ≡ get_or commands i command
     → here ≡ stage_refused (stage_on files command) → new ≡ (old || here) → next ≡ files_after (stage_on files command)
     → (old || list_any stage_refused (stages files (drop i commands))) ≡ whole → (new || list_any stage_refused (stages next (drop (i + 1) commands))) ≡ whole
@@ -117,7 +108,7 @@ pub all_told : (files : List (List FileItem)) (commands : List Command) (i : ℕ
 all_told files commands i text whole past e = sym (append-nil text) ∙ sym (ap (λ (rest : List Command). text ++ flat_map told (stages files rest)) (drop_all i commands past)) ∙ e
 
 pub all_refused : (files : List (List FileItem)) (commands : List Command) (i : ℕ) (refused whole : Bool) → length commands ≤ i → (refused || list_any stage_refused (stages files (drop i commands))) ≡ whole → refused ≡ whole
-all_refused files commands i refused whole past e = sym (or_false refused) ∙ sym (ap (λ (rest : List Command). refused || list_any stage_refused (stages files rest)) (drop_all i commands past)) ∙ e
+all_refused files commands i refused whole past e = sym (or-false refused) ∙ sym (ap (λ (rest : List Command). refused || list_any stage_refused (stages files rest)) (drop_all i commands past)) ∙ e
 
 -- a command leaves the files that a session has after it, whatever else the session has
 leaves_files : (s : Session) (command : Command) → (step s command).files ≡ files_after (stage_on s.files command)

@@ -1,6 +1,5 @@
 -- `check` ends as the run that it stands for.
-use Rattle.std.proofs.Common.{◌≡◌, ℕ, List, [], ◌∷◌, ◌++◌, Option, Some, None, Result, Ok, Err, refl, ap, ◌∙◌, append_assoc}
-use Rattle.std.proofs.lemmas.List.{append-nil}
+use Rattle.std.proofs.Common.{◌≡◌, ℕ, List, [], ◌∷◌, ◌++◌, Option, Some, None, Result, Ok, Err, refl, ap, ◌∙◌, append_assoc, append-nil}
 use Rattle.ucd_points.specs.Lines.{items_of}
 use Rattle.release_rows.specs.FileItems.{FileItem}
 use Rattle.run_inputs.specs.Held.{source_held}

@@ -1,8 +1,7 @@
 -- What is judged is what was seen, and what is then to be told.
-use Rattle.std.proofs.Common.{◌≡◌, ◌≤◌, ℕ, Bool, List, length, map, Result, Ok, Err, sym, ap, subst, ◌∙◌, arith}
+use Rattle.std.proofs.Common.{◌≡◌, ◌≤◌, ℕ, Bool, List, length, map, Result, Ok, Err, sym, ap, subst, ◌∙◌, arith, IfOk}
 use Rattle.std.proofs.lemmas.List.{length-map}
-use Rattle.std.specs.Prelude.{IfOk}
-use Rattle.run_endings.specs.Endings.{Contents, Ending, NewFile, Refuses, Seen, Sees}
+use Rattle.run_endings.specs.Endings.{Contents, NewFile, Refuses, Seen, Sees}
 use Rattle.run_endings.specs.Outcome.{LastFailedStays, ShelfSeen}
 use Rattle.run_endings.specs.Planning.{IsPlanOf, OnRefused, PlansAs, UnreadAs}
 use Rattle.run_endings.specs.Reading.{IsRead, cut}
@@ -11,7 +10,6 @@ use Rattle.run_endings.specs.declared.plan.Plan.{Plan}
 use Rattle.run_endings.specs.declared.stop.Stop.{Stop}
 use Rattle.run_endings.specs.declared.stop.Stop.TheVariants.{Refused, ReadFailed, Memory}
 use Rattle.run_inputs.specs.CutProofs.{cut_folder}
-use Rattle.run_inputs.specs.Judging.{ToldAs}
 use Rattle.ucdshop_core.specs.CutProofs.{cut_verdict}
 use Rattle.ucdshop_look_core.proofs.NothingWritten.{ends_without_files}
 use Rattle.ucdshop_look_core.specs.Answers.{ask_ending}
@@ -57,7 +55,3 @@ judged_unread job items paths shelf (Err (ReadFailed line)) is stays = absurd is
 judged_unread job items paths shelf (Err Memory) is stays = tt
 
 -- what is refused has no ending
-pub stops_as : {A B : Type 0} (view : A → B) (ending : B → Ending) (verdict : Result B (List ℕ)) (stop : Stop) → ToldAs view (Err stop) verdict → PlansAs (Err stop) (finished ending verdict)
-stops_as view ending verdict (Refused line) told = ap (finished ending) told
-stops_as view ending verdict (ReadFailed line) told = absurd told
-stops_as view ending verdict Memory told = tt

@@ -1,6 +1,5 @@
 -- No ending of this program has a file, so that every path holds what it held, whatever the status.
-use Rattle.std.proofs.Common.{◌≡◌, ℕ, IsTrue, List, [], map, Option, Some, None, Result, Ok, Err, refl, ap, subst, ◌∙◌, inl, inr}
-use Rattle.std.specs.List.{slice_get}
+use Rattle.std.proofs.Common.{◌≡◌, ℕ, IsTrue, List, [], map, Option, Some, None, Result, Ok, Err, refl, ap, subst, ◌∙◌, inl, inr, slice_get}
 use Rattle.shelf_io.specs.Contents.{SameContents}
 use Rattle.run_endings.specs.Endings.{Contents, Ending, EndsAs, Finishes, NewFile, Refuses, Replaced, Seen, Sees, WritesItsPaths, after, expected_by, needed}
 use Rattle.run_endings.specs.Outcome.{Leaves, ShelfSeen, SinkSeen}

@@ -1,10 +1,10 @@
 -- Code points that are kept of all of them are in order, and their spans have as many as they are.
-use Rattle.std.proofs.Common.{◌≡◌, ℕ, ◌+◌, ◌-◌, ◌≤◌, Bool, true, false, cond, List, [], ◌∷◌, map, filter, length, Some, None, is_some, refl, sym, ap, ◌∙◌, arith}
-use Rattle.std.specs.Prelude.{count_by, sum_by}
+use Rattle.std.proofs.Common.{◌≡◌, ℕ, ◌+◌, ◌-◌, ◌≤◌, Bool, true, false, cond, List, [], ◌∷◌, map, filter, length, Some, None, is_some, refl, sym, ap, ◌∙◌, arith, count_by, sum_by}
 use Rattle.std.specs.List.{range_with_len}
 use Rattle.std.proofs.lemmas.List.Elements.{filter_agree}
 use Rattle.std.proofs.lemmas.List.FromFn.{length-range_with_len}
 use Rattle.std.proofs.lemmas.List.Sums.{count_by-le-length, length-filter, sum_by-cons}
+use Rattle.ucd_points.specs.PlainProofs.{filter_alike}
 use Rattle.ucd_points.specs.Bounds.{Bounds}
 use Rattle.ucd_points.specs.Limits.{point_count}
 use Rattle.ucd_laws.specs.LabelLaws.{span_length}
@@ -15,7 +15,6 @@ use Rattle.unicodeset_eval.specs.Members.{member_label, member_spans}
 use Rattle.ucd_model.specs.KeptNumbers.{in_kept}
 use Rattle.set_answers.specs.SetTexts.{members_in}
 use Rattle.ucdshop_look_core.specs.PointSpans.{AreInOrder, point_spans}
-use Rattle.ucdshop_look_core.proofs.RangeLemmas.{filter_alike}
 
 kept_again : (p : ℕ → Bool) (n : ℕ) → filter p (range_with_len 0 n) ≡ filter (is_in (filter p (range_with_len 0 n))) (range_with_len 0 n)
 kept_again p n = filter_alike p (is_in (filter p (range_with_len 0 n))) 0 n (λ k low high. sym (in_kept p n k (omega arith)))

@@ -56,9 +56,3 @@ none_in p lo (suc m) e k low high = go (p lo) refl (λ none from. none_in p (lo 
     ]
 
 -- tests that agree on the numbers of a range keep the same ones
-pub filter_alike : (p q : ℕ → Bool) (lo m : ℕ) → ((k : ℕ) → lo ≤ k → k < lo + m → p k ≡ q k) → filter p (range_with_len lo m) ≡ filter q (range_with_len lo m)
-filter_alike p q lo zero same = refl
-filter_alike p q lo (suc m) same =
-    let behind : filter p (range_with_len (lo + 1) m) ≡ filter q (range_with_len (lo + 1) m) = filter_alike p q (lo + 1) m (λ k low high. same k (omega arith) (omega arith)) in
-    let here : p lo ≡ q lo = same lo (omega arith) (omega arith) in
-    rw (here, behind) refl

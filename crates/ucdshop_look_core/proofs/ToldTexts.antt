@@ -1,7 +1,6 @@
 -- What is told of code points, put together.
-use Rattle.std.proofs.Common.{◌≡◌, ◌≤◌, ℕ, List, [], ◌∷◌, ◌++◌, length, map, take, drop, refl, ap, ◌∙◌, append-nil, arith}
+use Rattle.std.proofs.Common.{◌≡◌, ◌≤◌, ℕ, List, [], ◌∷◌, ◌++◌, length, map, take, drop, refl, ap, ◌∙◌, append-nil, arith, flat_map}
 use Rattle.std.proofs.lemmas.List.{drop_all, take_all}
-use Rattle.std.specs.List.{flat_map}
 use Rattle.release_rows.specs.FileItems.{FileItem}
 use Rattle.record_lines.specs.PointTexts.{with_more}
 use Rattle.record_lines.specs.RowLines.{rows_text}

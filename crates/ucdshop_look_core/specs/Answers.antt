@@ -1,5 +1,4 @@
 -- What `ask` tells: the answers to questions on the files of a release.
---
 -- answer_text answer           the members, as spans, with their total; or why the question is refused
 -- section files question       the section of a question: `# ` and its text, and the answer that it has on these files
 -- sections files questions     the sections of all questions, in order

@@ -1,5 +1,4 @@
 -- What `changes` tells agrees with what `apply` does.
---
 -- TotalsAreCounted           the spans of an accepted group have as many code points as its line of the log counts
 -- StagesFollowTheSession     the commands behind others are carried out on the files that the session leaves of these
 use Rattle.std.specs.Prelude.{◌≡◌, List, ◌++◌}

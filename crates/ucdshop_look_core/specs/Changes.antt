@@ -1,5 +1,4 @@
 -- What `changes` tells: which records each group of a script changes, and how.
---
 -- what_differs R S c           the properties that differ between the records R and S of the code point c
 -- points_section line R S points   of code points that a group on this line changes: its line; the code points as maximal ascending
 --                              spans, with their total; and of each the properties that differ between its records R and S
@@ -14,8 +13,7 @@
 -- stages files commands        the commands in order, each with the files as those before it leave them
 -- stages_ending all            the ending: no file, what is told of each of them, and whether a group was refused
 -- changes_ending inputs        the ending on these inputs
-use Rattle.std.specs.Prelude.{ℕ, Bool, false, List, [], ◌∷◌, ◌++◌, Result, Ok, Err, is_err, codes}
-use Rattle.std.specs.Fmt.{decimal}
+use Rattle.std.specs.Prelude.{ℕ, Bool, false, List, [], ◌∷◌, ◌++◌, Result, Ok, Err, is_err, codes, decimal}
 use Rattle.std.specs.List.{flat_map, list_any}
 use Rattle.ucd_model.specs.DerivedText.{line_end}
 use Rattle.ucd_model.specs.Records.{Record, record_at}

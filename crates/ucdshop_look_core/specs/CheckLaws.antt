@@ -1,5 +1,4 @@
 -- What `check` tells is what the run of the first program comes to that it stands for.
---
 -- TellsFirst check run       both are refused, by the same line; or both end, with the same status, and the text of the first begins with
 --                            the line of the second
 -- TellsAlone check run       the same, and the text is that line

@@ -1,5 +1,4 @@
 -- What `check` tells: what a run of the first program comes to.
---
 -- tells_refusal line           the line of a log tells of a refused command: behind the number of the command's line stands `refused`
 -- refusal_line line            such a line, with its LF; nothing for another
 -- refusals log                 the lines of the log that tell of refused commands, in order
@@ -10,8 +9,7 @@
 -- session_ending earlier s     the ending after a session: no file, that text with the breaks against the earlier release, and whether a
 --                              command was refused or a policy is broken
 -- check_ending inputs          the ending on these inputs: after the session of their commands
-use Rattle.std.specs.Prelude.{ℕ, Bool, ◌||◌, ◌==◌, eqb, List, [], ◌++◌, length, count_by, Option, nat_lt, if◌then◌else◌, codes}
-use Rattle.std.specs.Fmt.{decimal}
+use Rattle.std.specs.Prelude.{ℕ, Bool, ◌||◌, ◌==◌, eqb, List, [], ◌++◌, length, count_by, Option, nat_lt, if◌then◌else◌, codes, decimal}
 use Rattle.std.specs.List.{after_first, flat_map, starts_with}
 use Rattle.ucd_points.specs.Lines.{LineItem, items_of}
 use Rattle.ucd_model.specs.DerivedText.{line_end}

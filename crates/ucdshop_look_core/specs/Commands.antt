@@ -1,5 +1,4 @@
 -- What a command of the program asks for.
---
 -- job_of command          the job that it stands for
 -- AsksFor command form    the command is there exactly where the form is, and stands for its job
 use Rattle.std.specs.Prelude.{◌≡◌, Option, Some, None}

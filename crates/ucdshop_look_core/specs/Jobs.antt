@@ -1,5 +1,4 @@
 -- What is asked for, by the words.
---
 -- Job                        what is asked for: Ask folder questions, to answer questions on the release of a folder; Show folder points,
 --                            to tell the records of code points of it; Check run, to tell how this run of the first program would end;
 --                            Changes run, to tell which records the groups of its script change
@@ -14,9 +13,8 @@
 -- changes_form arguments     what the words behind `changes` ask for: DATA and the script
 -- form words                 what the words ask for; None where they have no listed form
 -- needed job                 the paths that are read, in order
-use Rattle.std.specs.Prelude.{ℕ, ◌&&◌, ◌==◌, Bool, not, List, [], ◌∷◌, length, Option, Some, None, nat_le, nat_lt, if◌then◌else◌, codes}
+use Rattle.std.specs.Prelude.{ℕ, ◌&&◌, ◌==◌, Bool, not, List, [], ◌∷◌, length, Option, Some, None, nat_le, nat_lt, if◌then◌else◌, codes, bytes_eq}
 use Rattle.std.specs.List.{list_all}
-use Rattle.std.specs.Str.{bytes_eq}
 use Rattle.run_inputs.specs.Paths.{sources_in}
 use Rattle.ucdshop_core.specs.Jobs.{Job as Run, needed as run_needed}
 use Rattle.ucdshop_look_core.specs.Points.{names_point, points_in}

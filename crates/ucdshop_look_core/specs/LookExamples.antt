@@ -1,5 +1,4 @@
 -- What a run is asked for, and what it tells, at small examples.
---
 -- words                    the words of a command line, cut at its spaces
 use Rattle.std.proofs.Common.{◌≡◌, ℕ, List, [], ◌∷◌, map, Some, None, Err, ◌==◌, refl, codes}
 use Rattle.std.specs.Fmt.{digits}

@@ -1,5 +1,4 @@
 -- The spans of code points that stand in a list.
---
 -- AreInOrder points     they are code points, each stands there once, and they ascend
 -- point_spans points    their spans: maximal, so that no two of them touch, and ascending
 -- IsLast n p spans s rest   of the numbers below n for which p holds, those in `rest` are left; s is the span of the last one before

@@ -1,5 +1,4 @@
 -- The code points that words name.
---
 -- char_of word          the code point of a word that is one character in UTF-8; None for all others
 -- or_else found other   what was found, or else the other
 -- named_point word      the code point that a word names: by 4 to 6 hexadecimal digits, by `U+` and such digits, or by its one character;

@@ -1,5 +1,4 @@
 -- The lines that a run prints, each ended by LF.
---
 -- usage                    of words that have no listed form: it names the forms
 use Rattle.std.specs.Prelude.{ℕ, List, ◌++◌, codes}
 use Rattle.ucd_model.specs.DerivedText.{line_end}

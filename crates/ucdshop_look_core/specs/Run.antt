@@ -1,7 +1,6 @@
 -- What a run is to do, by its words and by what the shelf holds.
 --
 -- What a run keeps stands in Promises.antt of run_endings, of any program; here stands this one.
---
 -- finished ending verdict    Finishes with the ending on what was judged; or Refuses with the line that refuses it
 -- expected_of job seen       what is expected of a job, by what was seen at the paths that it needs
 -- ucdshop_look               this program, which writes nothing

@@ -1,10 +1,8 @@
 -- What `show` tells: the records of code points, and the rows that give their facts.
---
 -- shown files c             of a code point of these files: its record, and the rows that speak of it, as they stand in the files
 -- record_told files c       the code point with its record
 -- show_ending points files  the ending: no file, and that of each code point, in order; nothing is refused
-use Rattle.std.specs.Prelude.{ℕ, false, List, [], ◌++◌}
-use Rattle.std.specs.List.{flat_map}
+use Rattle.std.specs.Prelude.{ℕ, false, List, [], ◌++◌, flat_map}
 use Rattle.ucd_model.specs.Records.{record_at}
 use Rattle.release_rows.specs.FileItems.{FileItem}
 use Rattle.edit_session.specs.Groups.{files_facts}

@@ -2,8 +2,7 @@
 --
 -- read_from is what the bytes of the file behind tell, and with_files puts that to the files of the folder
 use Rattle.std.proofs.Common.{◌≡◌, ℕ, List, map, Option, Result, Ok, sym, ap, ◌∙◌, arith}
-use Rattle.release_rows.specs.FileItems.{FileItem}
-use Rattle.release_rows.specs.Releases.{ReleaseItems}
+use Rattle.release_rows.specs.Releases.{ReleaseItems, FileItem}
 use Rattle.run_endings.specs.Endings.{Seen}
 use Rattle.run_endings.specs.Reading.{cut}
 use Rattle.run_endings.specs.ReadingProofs.{held_cut}

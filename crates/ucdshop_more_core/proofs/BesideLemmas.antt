@@ -1,6 +1,5 @@
 -- What is judged of a folder and of the file beside it, by what was read of both.
-use Rattle.std.proofs.Common.{◌≡◌, Bool, List, ℕ, [], ◌∷◌, ◌++◌, map, Result, Ok, Err, sym, ap, subst, ◌∙◌}
-use Rattle.std.specs.Prelude.{IfOk}
+use Rattle.std.proofs.Common.{◌≡◌, Bool, List, ℕ, [], ◌∷◌, ◌++◌, map, Result, Ok, Err, sym, ap, subst, ◌∙◌, IfOk}
 use Rattle.run_endings.specs.Endings.{Contents, IsSeen, Seen, Sees}
 use Rattle.run_endings.specs.Outcome.{LastFailedStays, ShelfSeen}
 use Rattle.run_endings.specs.Planning.{OnRefused, UnreadAs}

@@ -1,10 +1,7 @@
 -- What `desk` writes, by what its log has.
-use Rattle.std.proofs.Common.{◌≡◌, ℕ, List, Result, Ok, Err, ap, subst, ◌∙◌}
-use Rattle.std.specs.Prelude.{IfOk}
-use Rattle.std.specs.List.{count_by}
+use Rattle.std.proofs.Common.{◌≡◌, ℕ, List, Result, Ok, Err, ap, subst, ◌∙◌, IfOk, count_by}
 use Rattle.ucd_points.specs.declared.memory.Memory.{Memory}
-use Rattle.release_rows.specs.FileItems.{FileItem}
-use Rattle.release_rows.specs.Releases.{ReleaseItems}
+use Rattle.release_rows.specs.Releases.{ReleaseItems, FileItem}
 use Rattle.bench_editors.specs.Desks.{DeskState, after_events, replies, started}
 use Rattle.bench_editors.specs.Standing.{StandsFor, desk_bench}
 use Rattle.bench_editors.specs.declared.desk.Desk.{Desk}

@@ -1,18 +1,14 @@
 -- Folders that are read one after another.
---
 -- behind releases verdict  these releases, and behind them those of the verdict; or its refusal
 -- ReadSoFar tells holds before releases   what was seen of the folders before, none of which is refused, gives these releases, whatever
 --                          folders follow and whatever is seen of them
-use Rattle.std.proofs.Common.{◌≡◌, ℕ, suc, zero, ◌+◌, ◌<◌, Bool, IsTrue, List, [], ◌∷◌, ◌++◌, length, map, drop, take, get_or, Option, Some, None, Result, Ok, Err, refl, sym, ap, subst, ◌∙◌, arith, append_assoc}
+use Rattle.std.proofs.Common.{◌≡◌, ℕ, suc, zero, ◌+◌, ◌<◌, Bool, IsTrue, List, [], ◌∷◌, ◌++◌, length, map, drop, take, get_or, Option, Some, None, Result, Ok, Err, refl, sym, ap, subst, ◌∙◌, arith, append_assoc, slice_get}
 use mathlib.Core.Path.{fun_ext}
-use Rattle.std.specs.Prelude.{slice_get}
 use Rattle.std.proofs.Math.Seq.{drop-append_seam}
 use Rattle.std.proofs.lemmas.Grind.{flat_map-append}
 use Rattle.std.proofs.lemmas.List.{append-nil, drop_more, get_or_append_left, length-append, length-map, map-append, take-append-drop}
 use Rattle.ucd_points.specs.SourceFiles.{file_place, file_place_small}
-use Rattle.ucd_points.specs.declared.files.SourceFile.{SourceFile}
-use Rattle.release_rows.specs.FileItems.{FileItem}
-use Rattle.release_rows.specs.Releases.{ReleaseItems}
+use Rattle.release_rows.specs.Releases.{ReleaseItems, FileItem, SourceFile}
 use Rattle.edit_session.specs.Benches.{HasNothingPrepared}
 use Rattle.shelf_io.specs.Contents.{SameContents}
 use Rattle.run_endings.specs.Endings.{Contents, IsSeen, Seen, Sees}

@@ -1,8 +1,6 @@
 -- Reading and judging the release in one folder.
-use Rattle.std.proofs.Common.{◌≡◌, ℕ, Bool, List, Result, Ok, Err, sym, ap, subst, ◌∙◌}
-use Rattle.std.specs.Prelude.{IfOk}
-use Rattle.release_rows.specs.FileItems.{FileItem}
-use Rattle.release_rows.specs.Releases.{ReleaseItems}
+use Rattle.std.proofs.Common.{◌≡◌, ℕ, Bool, List, Result, Ok, Err, sym, ap, subst, ◌∙◌, IfOk}
+use Rattle.release_rows.specs.Releases.{ReleaseItems, FileItem}
 use Rattle.run_endings.specs.Endings.{Contents, IsSeen, Seen}
 use Rattle.run_endings.specs.Outcome.{LastFailedStays, ShelfSeen}
 use Rattle.run_endings.specs.Planning.{OnRefused, UnreadAs}

@@ -1,8 +1,6 @@
 -- A session at a desk, request by request.
---
 -- IsLogged s all rest log desk   the log so far, and behind it what is replied to the turns that are left, is what is replied to all
-use Rattle.std.proofs.Common.{◌≡◌, ◌≤◌, ℕ, ◌+◌, cond, List, [], ◌∷◌, ◌++◌, refl, sym, ap, subst, ◌∙◌, arith, append_assoc, append-nil}
-use Rattle.std.specs.List.{count_by}
+use Rattle.std.proofs.Common.{◌≡◌, ◌≤◌, ℕ, ◌+◌, cond, List, [], ◌∷◌, ◌++◌, refl, sym, ap, subst, ◌∙◌, arith, append_assoc, append-nil, count_by}
 use Rattle.std.proofs.lemmas.List.Sums.{sum_by-cons}
 use Rattle.bench_editors.specs.Desks.{DeskState, after_events, answer, replies}
 use Rattle.bench_editors.specs.Standing.{StandsFor}

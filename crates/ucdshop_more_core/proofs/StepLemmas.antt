@@ -1,8 +1,6 @@
 -- One more release, and the step that leads to it.
---
 -- step_to last new         the breaks of the step from the last release to a new one; no step where there is no release
-use Rattle.std.proofs.Common.{◌≡◌, ℕ, suc, ◌+◌, List, [], ◌∷◌, ◌++◌, length, Option, Some, None, refl, ap, sym, ◌∙◌, arith, append_assoc}
-use Rattle.std.proofs.lemmas.List.{append-nil}
+use Rattle.std.proofs.Common.{◌≡◌, ℕ, suc, ◌+◌, List, [], ◌∷◌, ◌++◌, length, Option, Some, None, refl, ap, sym, ◌∙◌, arith, append_assoc, append-nil}
 use Rattle.release_rows.specs.Releases.{ReleaseItems}
 use Rattle.age_chain.specs.Ages.{last_of}
 use Rattle.stability_policies.specs.Reports.{report}

@@ -1,6 +1,5 @@
 -- What a run of `ages` has seen when it stops at a folder, behind folders that are not refused.
-use Rattle.std.proofs.Common.{◌≡◌, ℕ, ◌+◌, List, ◌∷◌, ◌++◌, length, Some, Err, sym, subst, ◌∙◌, arith}
-use Rattle.std.specs.Prelude.{slice_get}
+use Rattle.std.proofs.Common.{◌≡◌, ℕ, ◌+◌, List, ◌∷◌, ◌++◌, length, Some, Err, sym, subst, ◌∙◌, arith, slice_get}
 use Rattle.release_rows.specs.Releases.{ReleaseItems}
 use Rattle.shelf_io.specs.declared.shelf.Shelf.{Ghosts as ShelfGhosts}
 use Rattle.run_endings.specs.Outcome.{LastFailedStays}

@@ -1,7 +1,6 @@
 -- What `conform` reads and judges.
 use Rattle.std.proofs.Common.{◌≡◌, ℕ, List, map, Option, Result, Ok, sym, ap, ◌∙◌, arith}
-use Rattle.release_rows.specs.FileItems.{FileItem}
-use Rattle.release_rows.specs.Releases.{ReleaseItems}
+use Rattle.release_rows.specs.Releases.{ReleaseItems, FileItem}
 use Rattle.norm_conformance.specs.declared.case.Cases.{Cases}
 use Rattle.edit_session.specs.Benches.{HasNothingPrepared}
 use Rattle.run_endings.specs.Endings.{Seen}

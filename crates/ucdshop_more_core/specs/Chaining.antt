@@ -1,5 +1,4 @@
 -- The releases of folders, put into a chain one after the other.
---
 -- Follows chained releases        it is the chain of these releases, the text of their steps, and how many breaks these have
 -- folders_paths folders           the paths of the source files of the folders, folder after folder
 -- AreFine tells holds folders     by what was seen none of the folders is refused
@@ -7,8 +6,7 @@
 -- AreRefused tells holds folders line      by what was seen the first folder that is refused has this line
 -- OpensAs folder bench tells holds         by what was seen the folder is not refused, and the bench is over its release
 -- IsRefused folder line tells holds        by what was seen the folder is refused by this line
-use Rattle.std.specs.Prelude.{◌≡◌, ℕ, Bool, List, Ok, Err}
-use Rattle.std.specs.List.{flat_map}
+use Rattle.std.specs.Prelude.{◌≡◌, ℕ, Bool, List, Ok, Err, flat_map}
 use Rattle.release_rows.specs.Releases.{ReleaseItems}
 use Rattle.age_chain.specs.Ages.{StandsFor}
 use Rattle.run_endings.specs.Endings.{Contents, Sees}

@@ -1,5 +1,4 @@
 -- What a command of the program asks for.
---
 -- job_of command          the job that it stands for
 -- AsksFor command form    the command is there exactly where the form is, and stands for its job
 -- IsListed job            it is one that words ask for: of `ages` there are not more folders than may be, and of `undo` as many groups can be taken

@@ -1,13 +1,11 @@
 -- The log of a desk, and what its summary counts.
---
 -- reply_text reply        what the log says of a reply: `opened R`, `accepted R N` with the number of code points whose records
 --                         differ, `left`, `present`, `absent`, `ahead R`, `stale R operation I`, or why the group is refused
 -- reply_line line reply   the line of the log that says it: the number of the mark's line, and what is said
 -- desk_log lines replies  the line of each reply, whose marks have these lines
 -- is_accepted reply       a group was carried out
 -- is_turned_away reply    no editor came or left, and no group was carried out
-use Rattle.std.specs.Prelude.{ℕ, Bool, true, false, List, [], ◌∷◌, ◌++◌, length, codes}
-use Rattle.std.specs.Fmt.{decimal}
+use Rattle.std.specs.Prelude.{ℕ, Bool, true, false, List, [], ◌∷◌, ◌++◌, length, codes, decimal}
 use Rattle.bench_editors.specs.declared.reply.Reply.{Reply}
 use Rattle.bench_editors.specs.declared.reply.Reply.TheVariants.{Entered, Accepted, Left, Present, Absent, Ahead, Stale, Refused}
 use Rattle.run_inputs.specs.GroupLines.{log_line, refusal_text}

@@ -1,13 +1,11 @@
 -- What `undo` is given: a release, and what is asked of a history of it; or why it is refused.
---
 -- Draft                   the files of a release, and the moves
 -- with_moves files moves  the files with the moves; or the line that refuses these
 -- draft_verdict input script seen   the release in a folder and the moves of the script behind it, of which this was seen; or the line
 --                         that refuses the first of these: a file of the folder, a code point, the script
 -- draft_of drafted        what the code holds
 -- AreWellFormed sections       the groups can be carried out
-use Rattle.std.specs.Prelude.{ℕ, List, Result, Ok, Err}
-use Rattle.std.specs.List.{All}
+use Rattle.std.specs.Prelude.{ℕ, List, Result, Ok, Err, All}
 use Rattle.release_rows.specs.FileItems.{FileItem}
 use Rattle.run_endings.specs.Endings.{Seen}
 use Rattle.run_inputs.specs.Held.{held_at, source_held}

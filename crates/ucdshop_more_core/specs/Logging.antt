@@ -1,9 +1,7 @@
 -- The log that is kept at a desk.
---
 -- LogsAll s turns log desk   the log has the replies that the turns get from this state on, and the count of those that the summary
 --                          counts; and the desk stands for the state that the turns leave
-use Rattle.std.specs.Prelude.{◌≡◌, List}
-use Rattle.std.specs.List.{count_by}
+use Rattle.std.specs.Prelude.{◌≡◌, List, count_by}
 use Rattle.bench_editors.specs.Desks.{DeskState, after_events, replies}
 use Rattle.bench_editors.specs.Standing.{StandsFor}
 use Rattle.bench_editors.specs.declared.desk.Desk.{Desk}

@@ -1,5 +1,4 @@
 -- Marks of a file of events: what an editor does at a desk.
---
 -- is_space b              the byte is a space
 -- proposal editor base    the mark of a proposal with these numbers; None where either is none
 -- proposal_of text        the mark of a proposal, by the two numbers around the first space
@@ -15,9 +14,8 @@
 -- ops_in what             the operations of a group; none of a question
 -- ops_of commands         the operations of the first command
 -- event_of mark commands  the event of the mark, with these commands behind it
-use Rattle.std.specs.Prelude.{ℕ, Bool, true, false, List, [], ◌∷◌, Option, Some, None, ◌==◌, codes}
+use Rattle.std.specs.Prelude.{ℕ, Bool, true, false, List, [], ◌∷◌, Option, Some, None, ◌==◌, codes, option_map}
 use Rattle.std.specs.List.{after_first, before_first}
-use Rattle.std.specs.Option.{option_map}
 use Rattle.bench_editors.specs.declared.event.Event.{Event}
 use Rattle.bench_editors.specs.declared.event.Event.TheVariants as event
 use Rattle.release_rows.specs.declared.operation.Op.{Op}

@@ -1,13 +1,10 @@
 -- The text of what a release misses of NormalizationTest.txt.
---
 -- form_code form        the name of a form: NFD, NFC, NFKD or NFKC
 -- miss_line miss        the line of a miss: of a case its line, the form, and the column; of a code point `point`, the code point, and
 --                       the form
 -- misses_text misses    a line for each miss, and `# total N`
 -- misses_of trial       what the release misses of the cases
-use Rattle.std.specs.Prelude.{ℕ, List, ◌++◌, length, codes}
-use Rattle.std.specs.Fmt.{decimal}
-use Rattle.std.specs.List.{flat_map}
+use Rattle.std.specs.Prelude.{ℕ, List, ◌++◌, length, codes, decimal, flat_map}
 use Rattle.ucd_points.specs.HexText.{hex_text}
 use Rattle.ucd_model.specs.DerivedText.{line_end}
 use Rattle.ucd_facts.specs.declared.form.Form.{Form}

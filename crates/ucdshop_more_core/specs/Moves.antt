@@ -1,5 +1,4 @@
 -- What a script asks of a history, or the first fault of the script. A line `@ undo` is a mark: it takes the latest group back.
---
 -- Move                    Apply line ops, to carry a group out whose command begins on this line; or TakeBack line, to take the latest
 --                         group back, by the mark on this line
 -- at_line line            the fault E7 on this line
@@ -26,10 +25,8 @@
 -- PutAs result old new moves   what a piece has was put behind the moves before it, or the fault is that of the piece; no claim if
 --                         memory ran out
 -- SectionsAs result expected   the same of all sections
-use Rattle.std.specs.Prelude.{◌≡◌, ℕ, Bool, List, [], ◌∷◌, ◌++◌, map, Option, Some, None, Result, Ok, Err, if◌then◌else◌, codes, ⊤}
+use Rattle.std.specs.Prelude.{◌≡◌, ℕ, Bool, List, [], ◌∷◌, ◌++◌, map, Option, Some, None, Result, Ok, Err, if◌then◌else◌, codes, ⊤, option_map, bytes_eq}
 use Rattle.std.specs.List.{flat_map, list_all}
-use Rattle.std.specs.Option.{option_map}
-use Rattle.std.specs.Str.{bytes_eq}
 use Rattle.ucd_points.specs.Answers.{AnswersBy}
 use Rattle.release_rows.specs.declared.operation.Op.{Op}
 use Rattle.run_inputs.specs.RefusalLines.{file_rule_code, refused}

@@ -1,5 +1,4 @@
 -- Folders are read and judged one after another: no file of a folder is asked for before the folders before it are found right.
---
 -- OnUnread result P               P of the line, where a file could not be read
 -- IsReached tells holds folders path   the path is that of a file of one of the folders, and by what was seen none of the folders
 --                                 before it is refused

@@ -1,5 +1,4 @@
 -- Where the files that this program writes lie below a folder.
---
 -- desk_log_in folder       the path of the log of a desk below a folder
 -- undo_log_in folder       the path of the log of a history below a folder
 -- misses_in folder         the path of what is missed, below a folder

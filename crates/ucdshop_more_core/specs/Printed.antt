@@ -1,5 +1,4 @@
 -- The lines that a run prints, each ended by LF.
---
 -- forms                    the forms of the words, in order
 -- barred texts             the texts, with a space, a bar and a space between two of them
 -- usage                    of words that have no listed form: it names the forms
@@ -9,8 +8,7 @@
 -- AgeCounts                how many releases there are, how many code points have an age, and how many breaks of policies all steps
 --                          have
 -- ages_summary counts      the line that says them
-use Rattle.std.specs.Prelude.{ℕ, List, [], ◌∷◌, ◌++◌, codes}
-use Rattle.std.specs.Fmt.{decimal}
+use Rattle.std.specs.Prelude.{ℕ, List, [], ◌∷◌, ◌++◌, codes, decimal}
 use Rattle.ucd_model.specs.DerivedText.{line_end}
 
 abbrev pub forms : List (List ℕ)

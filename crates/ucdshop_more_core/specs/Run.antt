@@ -1,5 +1,4 @@
 -- What a run is to do, by its words and by what the shelf holds.
---
 -- Job                              what is asked for: Desk input events output, to let editors work on the release of a folder as a file of
 --                                  events says, and to write what its files are then, and what was replied, into another folder;
 --                                  Undo input script output depth, to carry out on the release of a folder what a script asks of a history that
@@ -47,12 +46,8 @@
 -- finished ending verdict          Finishes with the ending on what was judged; or Refuses with the line that refuses it
 -- expected_of job seen             what is expected of a job, by what was seen at the paths that it needs
 -- ucdshop_more                     this program
-use Rattle.std.specs.Prelude.{ℕ, ◌&&◌, List, [], ◌∷◌, ◌++◌, length, map, drop, Option, Some, None, Result, Ok, Err, nat_le, nat_lt, if◌then◌else◌, codes}
-use Rattle.std.specs.List.{count_by, flat_map}
-use Rattle.std.specs.Option.{option_map}
-use Rattle.std.specs.Str.{bytes_eq}
-use Rattle.release_rows.specs.FileItems.{FileItem}
-use Rattle.release_rows.specs.Releases.{ReleaseItems}
+use Rattle.std.specs.Prelude.{ℕ, ◌&&◌, List, [], ◌∷◌, ◌++◌, length, map, drop, Option, Some, None, Result, Ok, Err, nat_le, nat_lt, if◌then◌else◌, codes, count_by, flat_map, option_map, bytes_eq}
+use Rattle.release_rows.specs.Releases.{ReleaseItems, FileItem}
 use Rattle.ucd_points.specs.Limits.{point_count}
 use Rattle.ucd_points.specs.SourceFiles.{source_files}
 use Rattle.ucd_facts.specs.Enumerations.{derived_files}

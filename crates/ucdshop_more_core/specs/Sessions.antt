@@ -1,5 +1,4 @@
 -- What `desk` is given: a release, and the turns of editors at a desk over it; or why it is refused.
---
 -- Session                 the files of a release, and the turns
 -- with_turns files turns  the files with the turns; or the line that refuses these
 -- session_verdict input events seen   the release in a folder and the turns of the file behind it, of which this was seen; or the line
@@ -7,8 +6,7 @@
 -- session_of sitting      what the code holds
 -- AreWellFormed requests       the groups behind the marks can be carried out
 -- AreFew requests         there are fewer than revisions are counted
-use Rattle.std.specs.Prelude.{◌<◌, ℕ, List, length, Result, Ok, Err}
-use Rattle.std.specs.List.{All}
+use Rattle.std.specs.Prelude.{◌<◌, ℕ, List, length, Result, Ok, Err, All}
 use Rattle.release_rows.specs.FileItems.{FileItem}
 use Rattle.run_endings.specs.Endings.{Seen}
 use Rattle.run_inputs.specs.Held.{held_at, source_held}

@@ -1,12 +1,10 @@
 -- The text of the steps from release to release.
---
 -- steps_of releases        the breaks of each step from a release to the one behind it, in order
 -- step_text k breaks       `# step K`, and the policy report of these breaks
 -- steps_from k steps       the text of each of these steps, the first of which leads to the release with the number k
 -- steps_text steps         the text of all steps: the first one leads to the second release
 -- breaks_in steps          how many breaks they have together
-use Rattle.std.specs.Prelude.{ℕ, ◌+◌, List, [], ◌∷◌, ◌++◌, length, codes}
-use Rattle.std.specs.Fmt.{decimal}
+use Rattle.std.specs.Prelude.{ℕ, ◌+◌, List, [], ◌∷◌, ◌++◌, length, codes, decimal}
 use Rattle.ucd_model.specs.DerivedText.{line_end}
 use Rattle.release_rows.specs.Releases.{ReleaseItems}
 use Rattle.stability_policies.specs.ReportTexts.{report_text}

@@ -1,5 +1,4 @@
 -- What `conform` is given: a release, and the cases of NormalizationTest.txt that it is tried on; or why it is refused.
---
 -- case_rule_code rule      the code of a rule that a file of cases breaks
 -- told_cases path read     the cases of the file at a path; or the line of its first fault: the path, the number of the line, and the
 --                          rule's code

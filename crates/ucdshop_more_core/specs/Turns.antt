@@ -1,5 +1,4 @@
 -- The turns of editors at a desk, by a file of events, or the first fault of the file.
---
 -- Turn                    an event, and the number of the line of its mark
 -- at_line line            the fault E7 on this line
 -- turn_of mark is commands   the turn of a mark with these commands behind it; E7 on its line where they do not fit
@@ -21,8 +20,7 @@
 -- PutAs result old new turn   what a piece has was put behind the turns before it, or the fault is that of the piece; no claim if
 --                         memory ran out
 -- TurnsAs result expected    the same of all requests
-use Rattle.std.specs.Prelude.{◌≡◌, ℕ, List, [], ◌∷◌, ◌++◌, map, Option, Some, None, Result, Ok, Err, if◌then◌else◌, codes, ⊤}
-use Rattle.std.specs.Option.{option_map}
+use Rattle.std.specs.Prelude.{◌≡◌, ℕ, List, [], ◌∷◌, ◌++◌, map, Option, Some, None, Result, Ok, Err, if◌then◌else◌, codes, ⊤, option_map}
 use Rattle.ucd_points.specs.Answers.{AnswersBy}
 use Rattle.bench_editors.specs.declared.event.Event.{Event}
 use Rattle.run_inputs.specs.RefusalLines.{file_rule_code, refused}

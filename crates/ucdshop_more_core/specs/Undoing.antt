@@ -1,5 +1,4 @@
 -- The moves of a script, made one after the other on a history.
---
 -- undone_line line count    the line of the log for a group that was taken back: how many code points have another record
 -- nothing_line line         the line for a mark where there was nothing to take back
 -- Course                    the history as the moves so far leave it, the log, how many groups were accepted, how many were taken back,
@@ -13,9 +12,7 @@
 -- after_move s move         the course after one more move, which is made on the history as it is then
 -- course depth files moves  the course after all moves
 -- course_of history log     the course that stands so: this history, and the log with its counts
-use Rattle.std.specs.Prelude.{ℕ, ◌+◌, List, [], ◌∷◌, ◌++◌, length, Result, Ok, Err, codes}
-use Rattle.std.specs.Fmt.{decimal}
-use Rattle.std.specs.List.{fold}
+use Rattle.std.specs.Prelude.{ℕ, ◌+◌, List, [], ◌∷◌, ◌++◌, length, Result, Ok, Err, codes, decimal, fold}
 use Rattle.bench_undo.specs.Histories.{HistoryState, accepted, gone_back}
 use Rattle.release_rows.specs.FileItems.{FileItem}
 use Rattle.edit_session.specs.Groups.{changed, files_facts, group_answer}

@@ -1,5 +1,4 @@
 -- Answers by the names of a table of aliases.
---
 -- answer_is      the spans of a set that was made are the answer
 -- answer_stops   a fault of the tree is the fault of the answer
 use Rattle.std.proofs.Common.{◌≡◌, ℕ, Bool, List, Ok, sym, ap, ◌∙◌, subst}

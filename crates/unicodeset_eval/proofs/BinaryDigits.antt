@@ -1,9 +1,7 @@
 -- How many binary digits of a number are 1.
---
 -- odd_ones     an odd number has one more than its half, and the next number as many as that half's next one
 -- even_ones    the number behind an even one has one more
-use Rattle.std.proofs.Common.{◌≡◌, ℕ, ◌+◌, ◌/◌, ◌%◌, ap, ◌∙◌, arith}
-use Rattle.std.specs.Prelude.{count_ones}
+use Rattle.std.proofs.Common.{◌≡◌, ℕ, ◌+◌, ◌/◌, ◌%◌, ap, ◌∙◌, arith, count_ones}
 use Rattle.std.specs.Int.Count.{ones_step}
 
 pub odd_ones : (d : ℕ) → d % 2 ≡ 1 → (count_ones d ≡ count_ones (d / 2) + 1) × (count_ones (d + 1) ≡ count_ones (d / 2 + 1))

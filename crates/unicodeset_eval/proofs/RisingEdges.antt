@@ -1,5 +1,4 @@
 -- One more span behind others, edge by edge.
---
 -- IsOpen b xs          behind these edges numbers are in, where b says it of those before them
 -- IsRising b xs e p    these edges rise, with one more that closes the last span, and are those of p
 -- next_rises           and with one more span, as a loop takes it

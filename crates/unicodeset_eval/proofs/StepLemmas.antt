@@ -1,5 +1,4 @@
 -- Steps of a bracket set, one by one.
---
 -- united_after     a step for each of some spans puts their code points in union with the members so far
 -- several_are      the members of a bracket set of such steps
 -- seen_more        the steps of an expression do what one step with its set does
@@ -7,7 +6,7 @@
 -- parts_more       the set of a part is put together with the members so far, where its change is put behind those so far, and the steps
 --                  of the part are the next of those that are left
 -- parts_stop       where a part has no set, the bracket set has none for the same reason
-use Rattle.std.proofs.Common.{rules, refl, ◌≡◌, ℕ, ◌+◌, ◌<◌, Bool, true, false, ◌||◌, List, [], ◌∷◌, ◌++◌, Ok, Err, map, drop, length, get_or, sym, ap, subst, ◌∙◌}
+use Rattle.std.proofs.Common.{rules, refl, ◌≡◌, ℕ, ◌+◌, ◌<◌, Bool, true, false, List, [], ◌∷◌, ◌++◌, Ok, Err, map, drop, length, get_or, sym, ap, subst, ◌∙◌}
 use Rattle.std.specs.List.{flat_map, list_any}
 use Rattle.std.proofs.Math.Bool.{or_assoc, or-false}
 use Rattle.std.proofs.lemmas.List.{append-nil, drop_more}

@@ -1,5 +1,4 @@
 -- What the code answers, and what is wanted.
---
 -- stop_fault stop            the fault that the stop tells; None if memory ran out
 -- Stops stop wanted          the stop is the fault that is wanted. If memory ran out, nothing is claimed
 -- Gives view result wanted   the result shows what is wanted: the value, or the fault with its rule and place. If memory ran out, nothing is claimed

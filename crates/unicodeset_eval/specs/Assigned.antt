@@ -1,12 +1,9 @@
 -- Which code points are assigned.
---
 -- AssignedHaveCategories rows   a row of UnicodeData.txt covers c exactly where the category of c is not Cn
 -- assigned_have_categories      so it is of rows that are kept
-use Rattle.std.proofs.Common.{◌≡◌, ◌≢◌, ℕ, ◌<◌, Bool, true, false, not, ◌==◌, List, [], ◌∷◌, ◌++◌, Option, Some, None, Result, Ok, Err, is_some, find, cond, refl, sym, ap, ◌∙◌}
-use Rattle.std.specs.Prelude.{slice_get}
-use Rattle.std.specs.List.{All}
-use Rattle.std.proofs.lemmas.Bool.{eqb-true}
+use Rattle.std.proofs.Common.{◌≡◌, ◌≢◌, ℕ, ◌<◌, Bool, true, false, not, ◌==◌, List, [], ◌∷◌, ◌++◌, Option, Some, None, Ok, is_some, find, cond, refl, sym, ap, ◌∙◌, slice_get, All, eqb-true}
 use Rattle.std.proofs.lemmas.List.Elements.{All-cons, All-head, All-nil, All-tail}
+use Rattle.release_rows.specs.FileLemmas.{row_ok}
 use Rattle.ucd_facts.specs.EnumerationProofs.{enumerates_categories}
 use Rattle.ucd_facts.specs.Enumerations.{categories}
 use Rattle.ucd_facts.specs.Facts.{Sources, facts, data_row, data_in, is_data_of, category_in}
@@ -18,13 +15,9 @@ use Rattle.ucd_facts.specs.declared.category.Category.{Category}
 use Rattle.ucd_facts.specs.declared.category.Category.TheVariants.{Cn}
 use Rattle.ucd_points.specs.declared.files.SourceFile.TheVariants.{UnicodeData}
 use Rattle.ucd_facts.specs.declared.row.DataRow.{DataRow}
-use Rattle.ucd_facts.specs.declared.row.Row.{Row}
 use Rattle.ucd_facts.specs.declared.row.Row.TheVariants.{Unit as DataLine, Value as ValueLine, Exclusion as ExclusionLine, Fold as FoldLine, Casing as CasingLine, Alias as AliasLine, Missing as MissingLine}
-use Rattle.ucd_points.specs.MissingLines.{is_trivia}
-use Rattle.source_rows.specs.Faults.{row_or_fault}
 use Rattle.source_rows.specs.Laws.{RowsAreOk, RowsAreRead}
-use Rattle.source_rows.specs.declared.fault.RowFault.{RowFault}
-use Rattle.release_rows.specs.FileItems.{FileItem, onto_rows, rows_in}
+use Rattle.release_rows.specs.FileItems.{FileItem, onto_rows, rows_in, Row}
 use Rattle.release_rows.specs.Loading.{content_row}
 use Rattle.release_rows.specs.Releases.{AreKept, AreKeptBelow}
 
@@ -34,24 +27,13 @@ AssignedHaveCategories rows = (c : ℕ) → c < point_count → is_some (data_ro
 -- ---- rows that are kept
 
 module _ (read : RowsAreRead) (ok : RowsAreOk) where
-  read_row : (content : List ℕ) (row : Row) → content_row UnicodeData content ≡ Ok (Some row) → row_or_fault UnicodeData content ≡ Ok row
-  read_row content row h = by (is_trivia UnicodeData content) (row_or_fault UnicodeData content) refl refl
-    where
-      same_row : (a b : Row) → (let x : Result (Option Row) RowFault = Ok (Some a) in x ≡ Ok (Some b)) → a ≡ b
-      same_row a b e = cc
-
-      by : (b : Bool) (r : Result Row RowFault) → is_trivia UnicodeData content ≡ b → row_or_fault UnicodeData content ≡ r → row_or_fault UnicodeData content ≡ Ok row
-      by true r e f = absurd (let k = (rw e at h) in cc)
-      by false (Ok other) e f = f ∙ ap Ok (same_row other row (rw (e, f) at h))
-      by false (Err fault) e f = absurd (let k = (rw (e, f) at h) in cc)
-
   rows_ok : (above items : List FileItem) → AreKeptBelow UnicodeData above items → All (RowOk UnicodeData) (rows_in items)
   rows_ok above [] kept = All-nil (RowOk UnicodeData)
   rows_ok above (item ∷ items) kept = by item.row kept.0.is_read (rows_ok (above ++ item ∷ []) items kept.1)
     where
       by : (row : Option Row) → content_row UnicodeData item.content ≡ Ok row → All (RowOk UnicodeData) (rows_in items) → All (RowOk UnicodeData) (onto_rows row (rows_in items))
       by None e rest = rest
-      by (Some row) e rest = All-cons (RowOk UnicodeData) row (rows_in items) ((ok UnicodeData row).1 (item.content, (read UnicodeData item.content row).0 (read_row item.content row e))) rest
+      by (Some row) e rest = All-cons (RowOk UnicodeData) row (rows_in items) (row_ok read ok UnicodeData item.content row e) rest
 
 -- ---- the category of a row
 

@@ -1,5 +1,4 @@
 -- What steps of a bracket set do to the members so far.
---
 -- changed c b change        whether c is in behind a change, where b says whether it was in before
 -- all_changed c b changes   the same behind changes, one after the other
 -- gathered changes          the members behind changes, where there were none before

@@ -1,20 +1,16 @@
 -- What edges say.
---
 -- inside_early        before the first edge nothing turns
 -- Rises-from          edges that rise from a number on do so from a lesser one on
 -- Turns x p a after b   the membership a is p before x, and from x on it is that of b, which is `after` before x
 -- emit_has            one edge more, of two sets
 -- merge_rises         the edges of two sets put together rise
 -- merge_has           and are those of what f makes of their members
--- merge_step          they are the least edge, where membership turns there, and those of what is left behind it
 -- inside_not          what is not in, is in by the opposite start
 -- equal_edges         sets with the same members have the same edges
-use Rattle.std.proofs.Common.{◌≡◌, ℕ, ◌+◌, ◌<◌, ◌≤◌, Bool, true, false, not, cond, List, [], ◌∷◌, Some, refl, sym, ap, ◌∙◌, arith, inl, inr}
-use Rattle.std.specs.Prelude.{nat_lt, nat_eq, min}
+use Rattle.std.proofs.Common.{◌≡◌, ℕ, ◌+◌, ◌<◌, ◌≤◌, Bool, true, false, not, cond, List, [], ◌∷◌, refl, sym, ap, ◌∙◌, arith, inl, inr, nat_lt}
 use Rattle.std.proofs.lemmas.Bool.{cases_lt, lt-ltb, le-ltb}
-use Rattle.std.proofs.lemmas.Bool.Decides.{nat_tests}
 use Rattle.unicodeset_eval.specs.Edges.{inside, Rises}
-use Rattle.unicodeset_eval.specs.Merges.{emit, only, with_edge, merge, turned, passed, least}
+use Rattle.unicodeset_eval.specs.Merges.{emit, only, with_edge, merge}
 
 pub inside_early : (b : Bool) (xs : List ℕ) (low c : ℕ) → Rises low xs → c < low → inside b xs c ≡ b
 inside_early b [] low c rises lt = refl
@@ -128,35 +124,6 @@ merge_rises f p xs q ys low first second = (merge_is f p xs q ys low first secon
 
 pub merge_has : (f : Bool → Bool → Bool) (p : Bool) (xs : List ℕ) (q : Bool) (ys : List ℕ) (low : ℕ) → Rises low xs → Rises low ys → (c : ℕ) → inside (f p q) (merge f p xs q ys) c ≡ f (inside p xs c) (inside q ys c)
 merge_has f p xs q ys low first second = (merge_is f p xs q ys low first second).has
-
--- ---- a step
-
-pub merge_step : (f : Bool → Bool → Bool) (p : Bool) (xs : List ℕ) (q : Bool) (ys : List ℕ) (at : ℕ) → least xs ys ≡ Some at →
-    merge f p xs q ys ≡ emit (f p q) (f (turned at p xs) (turned at q ys)) at (merge f (turned at p xs) (passed at xs) (turned at q ys) (passed at ys))
-merge_step f p [] q [] at e = absurd cc
-merge_step f p [] q (y ∷ ys) at e = let same : y ≡ at = cc in let test : nat_eq y at ≡ true = grind (arith, nat_tests) in rw (test, same) refl
-merge_step f p (x ∷ xs) q [] at e = let same : x ≡ at = cc in let test : nat_eq x at ≡ true = grind (arith, nat_tests) in rw (test, same) refl
-merge_step f p (x ∷ xs) q (y ∷ ys) at e =
-    let same : min x y ≡ at = cc in
-    elim (cases_lt x y) [
-      | inl lt ↦
-          let here : x ≡ at = omega arith in
-          let first : nat_eq x at ≡ true = grind (arith, nat_tests) in
-          let second : nat_eq y at ≡ false = grind (arith, nat_tests) in
-          rw (lt-ltb x y lt, first, second, here) refl
-      | inr ge ↦ elim (cases_lt y x) [
-        | inl lt ↦
-            let here : y ≡ at = omega arith in
-            let first : nat_eq x at ≡ false = grind (arith, nat_tests) in
-            let second : nat_eq y at ≡ true = grind (arith, nat_tests) in
-            rw (le-ltb x y ge, lt-ltb y x lt, first, second, here) refl
-        | inr le ↦
-            let here : x ≡ at = omega arith in
-            let first : nat_eq x at ≡ true = grind (arith, nat_tests) in
-            let second : nat_eq y at ≡ true = grind (arith, nat_tests) in
-            rw (le-ltb x y ge, le-ltb y x le, first, second, here) refl
-      ]
-    ]
 
 -- ---- the opposite
 

@@ -1,6 +1,5 @@
 -- Sets of numbers by their edges: the numbers at which membership turns. UTS #35, "Unicode Sets", calls such a list an
 -- inversion list.
---
 -- inside b edges c       whether c is in, where b says it of the numbers before the first edge
 -- Rises low edges        the edges rise strictly, and the first is `low` or more
 -- Edges                  a set: whether 0 is in it, and the edges above 0

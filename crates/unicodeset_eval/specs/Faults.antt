@@ -1,5 +1,4 @@
 -- The names of a tree that mean nothing.
---
 -- unless_some f x          no fault where there is something; else this one
 -- value_faults .. p        the fault of a value of property p, if any
 -- name_faults names n      the fault of a name, if any
@@ -9,8 +8,7 @@
 --                          told, whatever the tests say
 -- IsLeast f fs             the fault is one of these, and none of them stands before it
 -- LeastFaultIsTold         in the tree of a text, the fault that is told is that of the name without meaning with the least place
-use Rattle.std.specs.Prelude.{◌≡◌, ◌≤◌, ℕ, Bool, List, [], ◌∷◌, Option, Some, None, Ok, Err}
-use Rattle.std.specs.List.{All, Contains, flat_map}
+use Rattle.std.specs.Prelude.{◌≡◌, ◌≤◌, ℕ, Bool, List, [], ◌∷◌, Option, Some, None, Ok, Err, All, Contains, flat_map}
 use Rattle.property_aliases.specs.Sources.{Sources}
 use Rattle.property_aliases.specs.declared.property.Property.{Property}
 use Rattle.property_aliases.specs.declared.property.Test.{Test}

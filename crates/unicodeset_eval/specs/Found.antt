@@ -1,5 +1,4 @@
 -- What the code looks at, where a definition looks at rows.
---
 -- tells test R                what a test says by the record R alone: Assigned is every category but Cn, which no row has; the tests of
 --                             derived properties are `passes`; false for the others
 -- no_points                   the set without members

@@ -1,5 +1,4 @@
 -- What rows give to a code point, by the numbers of values.
---
 -- given names rows i c                   a row with the name of number i covers c; never where the number is not used
 -- given_or_default d names rows i c      the same, or no row covers c and the name is d
 -- buckets_are                            the spans of number i are those of its name
@@ -7,15 +6,13 @@
 -- numbers_are                            where a number is that of a value, it is number i where the value is the name of number i
 -- spans_cover                            the spans of rows are what they cover
 -- pushed                                 one set more
-use Rattle.std.proofs.Common.{◌≡◌, ℕ, zero, suc, ◌<◌, ◌≤◌, Bool, true, false, not, ◌&&◌, ◌||◌, List, [], ◌∷◌, ◌++◌, map, length, Some, refl, sym, ap, ◌∙◌, arith, inl, inr}
-use Rattle.std.specs.Prelude.{slice_get, slice_index_or, nat_eq}
+use Rattle.std.proofs.Common.{◌≡◌, ℕ, zero, suc, ◌<◌, ◌≤◌, Bool, true, false, not, ◌&&◌, ◌||◌, List, [], ◌∷◌, ◌++◌, map, length, Some, refl, sym, ap, ◌∙◌, arith, inl, inr, slice_get, slice_index_or, nat_eq, bytes_eq}
 use Rattle.std.specs.List.{IsDistinct, list_any}
 use Rattle.std.proofs.Math.ListN.{get_or-eq_default}
 use Rattle.std.proofs.lemmas.Bool.{cases_lt}
 use Rattle.std.proofs.lemmas.Bool.Decides.{nat_tests}
 use Rattle.std.proofs.lemmas.Option.{get_or_from_slice_get, slice_get-get_or, slice_get_past, slice_get_within}
 use Rattle.std.specs.Option.{option_map_or}
-use Rattle.std.specs.Str.{bytes_eq}
 use Rattle.ucd_points.specs.Bounds.{Bounds}
 use Rattle.ucd_facts.specs.Facts.{within}
 use Rattle.ucd_facts.specs.declared.row.ValueRow.{ValueRow}

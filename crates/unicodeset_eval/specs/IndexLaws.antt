@@ -1,8 +1,6 @@
 -- What an index says is what the definition says.
---
 -- says_is   of the code points, where the records have the categories of the rows
-use Rattle.std.proofs.Common.{◌≡◌, ℕ, ◌<◌, Bool, not, ◌&&◌, ◌==◌, refl, sym, ap, ◌∙◌, arith, inl, inr}
-use Rattle.std.specs.Prelude.{nat_lt}
+use Rattle.std.proofs.Common.{◌≡◌, ℕ, ◌<◌, Bool, not, ◌&&◌, ◌==◌, refl, sym, ap, ◌∙◌, arith, inl, inr, nat_lt}
 use Rattle.std.proofs.lemmas.Bool.{cases_lt, le-ltb}
 use Rattle.ucd_facts.specs.Facts.{Sources, facts}
 use Rattle.ucd_points.specs.Limits.{point_count}

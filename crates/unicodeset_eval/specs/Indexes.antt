@@ -1,5 +1,4 @@
 -- What an index says of code points.
---
 -- index_holds record_of index test c   what the index says of c by the records and sets that it keeps; never past 10FFFF
 use Rattle.std.specs.Prelude.{ℕ, Bool, ◌&&◌, nat_lt}
 use Rattle.ucd_points.specs.Limits.{point_count}

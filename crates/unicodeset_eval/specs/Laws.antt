@@ -1,5 +1,4 @@
 -- What holds of all sets.
---
 -- EqualMembersHaveEqualEdges   a set that is told by whether 0 is in it and by rising edges above 0 is told in one way
 --                              alone
 use Rattle.std.specs.Prelude.{◌≡◌, ℕ}

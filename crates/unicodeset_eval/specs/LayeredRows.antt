@@ -1,12 +1,10 @@
 -- The rows of a file as layers of numbers.
---
 -- layer_of row         a row as a layer: its number, for its span
 -- layers_of values     the missing rows of a file as layers, and over them the other rows
 -- is_other row         the row has another number than 0, that of the default
 -- layers_name          the number that the layers give to a code point is that of its value
 -- missing_stays        where no missing row has another number than 0, what missing rows give is the default
-use Rattle.std.proofs.Common.{◌≡◌, ℕ, Bool, true, false, if◌then◌else◌, List, [], ◌∷◌, ◌++◌, Option, Some, fold, map, find, refl, sym, ap, subst, ◌∙◌, arith}
-use Rattle.std.specs.Prelude.{nat_lt, slice_get, unwrap_or}
+use Rattle.std.proofs.Common.{◌≡◌, ℕ, Bool, true, false, if◌then◌else◌, List, [], ◌∷◌, ◌++◌, Option, Some, fold, map, find, refl, sym, ap, subst, ◌∙◌, arith, nat_lt, slice_get, unwrap_or}
 use Rattle.std.specs.List.{list_any}
 use Rattle.std.proofs.lemmas.Bool.{or_parts}
 use Rattle.std.proofs.lemmas.Bool.Decides.{nat_tests}

@@ -1,5 +1,4 @@
 -- Sets of code points, as contracts see them: the function that says of each number whether it is in.
---
 -- nothing c            no number is in
 -- between s c          whether c lies in a span
 -- joined j a b c       whether c is in what j makes of two sets

@@ -1,5 +1,4 @@
 -- Two sets put together, edge by edge.
---
 -- emit a b x rest             x and the rest, where membership turns at x from a to another b; else the rest alone
 -- only f p q ys               the edges of what f makes of two sets, of which the first has no edges left
 -- with_edge f p x next q ys   the same, where x is the first edge that is left of the first set; `next` has those behind x

@@ -1,13 +1,11 @@
 -- The set of a test that says the same throughout each piece of a cut.
---
 -- piece_edges n q b pieces   the numbers at which q turns, over pieces throughout each of which it is the same; b is what it is
 --                            before them, and from n on it is false
 -- piece_edges_rise           they rise
 -- piece_edges_are            from where the pieces begin, they say q below n, and else false
 -- rises_prop                 that edges rise is one fact
 -- ascii_is                   the numbers below 80 are code points
-use Rattle.std.proofs.Common.{◌≡◌, ℕ, ◌+◌, ◌<◌, ◌≤◌, Bool, true, false, ◌&&◌, List, [], ◌∷◌, refl, sym, ap, subst, ◌∙◌, arith, inl, inr}
-use Rattle.std.specs.Prelude.{nat_lt}
+use Rattle.std.proofs.Common.{◌≡◌, ℕ, ◌+◌, ◌<◌, ◌≤◌, Bool, true, false, ◌&&◌, List, [], ◌∷◌, refl, sym, ap, subst, ◌∙◌, arith, inl, inr, nat_lt}
 use Rattle.std.proofs.Math.Bridge.{le_prop}
 use Rattle.std.proofs.lemmas.Bool.{cases_lt, lt-ltb, le-ltb}
 use Rattle.ucd_points.specs.Bounds.{Bounds}

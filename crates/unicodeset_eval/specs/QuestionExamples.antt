@@ -1,11 +1,9 @@
 -- Answers of UnicodeSets. The letters a to z are 1 to 26 here, so that lists stay short.
---
 -- letters cs              the bracket set of these characters
 -- within lo hi            the characters from lo to hi
 -- known                   a property `gc` with the value `Lu`, which stands alone too
 -- told t                  the answer below 30, where a test holds of 3 and 4
-use Rattle.std.proofs.Common.{◌≡◌, ℕ, ◌==◌, ◌||◌, if◌then◌else◌, List, [], ◌∷◌, map, Some, None, Result, Ok, Err, codes, refl}
-use Rattle.std.specs.Str.{bytes_eq}
+use Rattle.std.proofs.Common.{◌≡◌, ℕ, ◌==◌, ◌||◌, if◌then◌else◌, List, [], ◌∷◌, map, Some, None, Result, Ok, Err, codes, refl, bytes_eq}
 use Rattle.property_aliases.specs.declared.property.Property.TheVariants.{Category as CategoryOf}
 use Rattle.property_aliases.specs.declared.property.Test.TheVariants.{Category}
 use Rattle.ucd_points.specs.Bounds.{Bounds}

@@ -1,5 +1,4 @@
 -- What a UnicodeSet means. UTS #35, "Unicode Sets".
---
 -- NameFault                 a name without meaning: the rule, and the place in the text where its property begins
 -- Names                     what names mean: that of a property, that of a value of a property, and a name that stands alone
 -- names_of s                what they mean by the rows of a release

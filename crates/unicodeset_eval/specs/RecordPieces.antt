@@ -1,5 +1,4 @@
 -- Pieces of equal records, as tests read them.
---
 -- values_record v          the record with these values, and with each code point itself for its NFKC_Casefold and
 --                          NFKC_Simple_Casefold
 -- unfolded R               the record R, but so: no test asks for one of these

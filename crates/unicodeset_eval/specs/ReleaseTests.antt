@@ -1,5 +1,4 @@
 -- What tests say by the rows of a release.
---
 -- release_tests R rows test c   whether c is a code point of which the test holds, where R has the record of each code point
 use Rattle.std.specs.Prelude.{ℕ, Bool, ◌&&◌, nat_lt}
 use Rattle.property_aliases.specs.declared.property.Test.{Test}

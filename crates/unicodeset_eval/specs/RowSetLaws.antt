@@ -1,14 +1,11 @@
 -- The sets of values are those of the definition.
---
 -- numbered_is   of a file where no two rows cover a code point: the rows that give a name, and what no row covers for the name that the
 --               missing rows give
 -- listed_is     of PropList.txt: the rows that give a name
 -- some_names    values behind a default are some
-use Rattle.std.proofs.Common.{◌≡◌, ℕ, ◌<◌, Bool, false, not, ◌&&◌, ◌||◌, List, length, Option, Some, None, refl, ap, ◌∙◌, arith}
-use Rattle.std.specs.Prelude.{slice_get}
+use Rattle.std.proofs.Common.{◌≡◌, ℕ, ◌<◌, Bool, false, not, ◌&&◌, ◌||◌, List, length, Option, Some, None, refl, ap, ◌∙◌, arith, slice_get, bytes_eq}
 use Rattle.std.specs.List.{list_any}
 use Rattle.std.specs.Option.{option_map_or}
-use Rattle.std.specs.Str.{bytes_eq}
 use Rattle.ucd_facts.specs.Facts.{gives_value}
 use Rattle.ucd_facts.specs.Values.{gives_some, missing_value, value_at}
 use Rattle.ucd_facts.specs.declared.row.Row.{Row}

@@ -1,5 +1,4 @@
 -- What tests say of some code points of Unicode 15.0.0, by lines of its files.
---
 -- line lo hi value   a line of a span and a value
 -- letter_a           the line of LATIN CAPITAL LETTER A
 -- sample             UnicodeData.txt: that line. Scripts.txt: 0041..005A and 0061..007A are Latin, 0370..0373 is Greek.
@@ -8,15 +7,15 @@
 -- values k           a record of category k, class 230 and kind Canonical, with Alphabetic alone, of which NFC's check is Maybe
 use Rattle.std.proofs.Common.{◌≡◌, ℕ, Bool, true, false, ◌==◌, List, [], ◌∷◌, Some, None, map, refl, codes}
 use Rattle.ucd_facts.specs.Facts.{Sources}
+use Rattle.ucd_facts.specs.declared.decomposition.Kind.TheVariants.{Plain, Canonical}
+use Rattle.ucd_facts.specs.declared.image.Image.TheVariants.{Same}
 use Rattle.ucd_model.specs.Records.{Record}
 use Rattle.ucd_facts.specs.Sets.{core_place}
 use Rattle.ucd_facts.specs.declared.category.Category.{Category}
 use Rattle.ucd_facts.specs.declared.category.Category.TheVariants.{Lu, Lt, Lm, Mn, Mc, Nl, Pi, Sk, Zl, Cn}
-use Rattle.ucd_facts.specs.declared.decomposition.Kind.TheVariants.{Plain, Canonical}
 use Rattle.ucd_points.specs.declared.files.SourceFile.TheVariants.{UnicodeData, PropList, Scripts, WordBreakProperty}
 use Rattle.ucd_facts.specs.declared.form.Form.TheVariants.{Nfd, Nfc}
 use Rattle.ucd_facts.specs.declared.form.Quick.TheVariants.{Yes, No, Maybe}
-use Rattle.ucd_facts.specs.declared.image.Image.TheVariants.{Same}
 use Rattle.ucd_facts.specs.declared.property.Core.TheVariants.{Math, Alphabetic}
 use Rattle.ucd_facts.specs.declared.row.DataRow.{DataRow}
 use Rattle.ucd_facts.specs.declared.row.Row.{Row}

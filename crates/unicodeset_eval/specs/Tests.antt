@@ -1,6 +1,5 @@
 -- What a test says of a code point, by the rows of a release and by what is derived of each code point. UAX #44, section 5;
 -- UTS #35, "Unicode Sets".
---
 -- group_categories g        the categories of a group. UAX #44, section 5.7.1, table 12
 -- check_of form R           the value of the quick check of a form
 -- same_truth a b            both hold, or neither
@@ -8,10 +7,9 @@
 -- is_listed rows k c        a row of PropList.txt with the name of number k covers c; never where the number is not used
 -- passes test R             what a test of derived properties says of a code point with the record R; false for the other tests
 -- test_holds R rows test c  what the test says of the code point c, where R gives the record of each code point
-use Rattle.std.specs.Prelude.{ℕ, Bool, true, false, not, nat_lt, ◌==◌, List, [], ◌∷◌, is_some, slice_get}
+use Rattle.std.specs.Prelude.{ℕ, Bool, true, false, not, nat_lt, ◌==◌, List, [], ◌∷◌, is_some, slice_get, bytes_eq}
 use Rattle.std.specs.List.{list_any}
 use Rattle.std.specs.Option.{option_map_or}
-use Rattle.std.specs.Str.{bytes_eq}
 use Rattle.ucd_facts.specs.Enumerations.{place_of_kind, place_of_quick}
 use Rattle.ucd_facts.specs.Facts.{Sources, data_row, gives_value}
 use Rattle.ucd_facts.specs.Predicates.{category_place, is_one_of}

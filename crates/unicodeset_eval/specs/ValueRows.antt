@@ -1,14 +1,11 @@
 -- What rows of a span and a value say.
---
 -- gives v c row        the row has this value and covers c
 -- covers c row         the row covers c
 -- gives_is, covers_is  of all rows the same is said
 -- value_is             where rows are apart, the value of the row that covers c is v, or there is no row and v is the default, whatever that
 --                      is: that of the last missing row that covers c, say
-use Rattle.std.proofs.Common.{◌≡◌, ℕ, Bool, true, false, not, ◌&&◌, ◌||◌, List, [], ◌∷◌, refl, ap}
-use Rattle.std.specs.Prelude.{find}
+use Rattle.std.proofs.Common.{◌≡◌, ℕ, Bool, true, false, not, ◌&&◌, ◌||◌, List, [], ◌∷◌, refl, ap, find, bytes_eq}
 use Rattle.std.specs.List.{list_any}
-use Rattle.std.specs.Str.{bytes_eq}
 use Rattle.std.proofs.lemmas.Bool.{or_parts}
 use Rattle.ucd_facts.specs.Facts.{gives_value}
 use Rattle.ucd_points.specs.Bounds.{within}

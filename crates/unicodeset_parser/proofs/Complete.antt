@@ -1,7 +1,6 @@
 -- What the grammar spells is read.
-use Rattle.std.proofs.Common.{◌≡◌, ℕ, suc, ◌+◌, ◌<◌, ◌≤◌, Bool, true, List, [], ◌∷◌, ◌++◌, length, Ok, refl, sym, ap, ◌∙◌, arith, append_assoc, append-nil}
+use Rattle.std.proofs.Common.{◌≡◌, ℕ, suc, ◌+◌, ◌<◌, ◌≤◌, Bool, true, List, [], ◌∷◌, ◌++◌, length, Ok, refl, sym, ap, ◌∙◌, arith, append_assoc, append-nil, nat_lt, nat_le}
 use Rattle.std.proofs.lemmas.Bool.Decides.{nat_tests}
-use Rattle.std.specs.Prelude.{nat_lt, nat_le}
 use Rattle.ucd_points.specs.Bounds.{Bounds}
 use Rattle.unicodeset_parser.specs.Grammar.{Stand, nothing, a_set, other, step_of, IsLetter, spelled_out, first_hyphen, IsChars, one, up_to, IsSet, a_property, a_bracket, IsBody, closed, joined, met, taken, spelled, IsText}
 use Rattle.unicodeset_parser.specs.Machine as m

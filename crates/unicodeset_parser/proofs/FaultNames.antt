@@ -1,7 +1,6 @@
 -- Which rule the fault of a token is.
-use Rattle.std.proofs.Common.{◌≡◌, ◌⊎◌, ℕ, Bool, true, false, cond, List, [], ◌∷◌, ◌++◌, length, Result, Ok, Err, inl, inr, refl, sym, ap, ◌∙◌, arith, append_assoc}
+use Rattle.std.proofs.Common.{◌≡◌, ◌⊎◌, ℕ, Bool, true, false, cond, List, [], ◌∷◌, ◌++◌, length, Result, Ok, Err, inl, inr, refl, sym, ap, ◌∙◌, arith, append_assoc, nat_lt, nat_le}
 use Rattle.std.proofs.lemmas.Bool.Decides.{nat_tests}
-use Rattle.std.specs.Prelude.{nat_lt, nat_le}
 use Rattle.unicodeset_parser.specs.FaultNames.{MaySet, MayLetter, Names, NamedIn, FaultsAreNamed}
 use Rattle.unicodeset_parser.specs.Laws.{StopsBehind}
 use Rattle.unicodeset_parser.specs.Machine as m

@@ -1,10 +1,8 @@
 -- The text of a tree is read as the tree.
-use Rattle.std.proofs.Common.{◌≡◌, ℕ, suc, ◌+◌, ◌-◌, ◌<◌, Bool, true, false, cond, List, [], ◌∷◌, ◌++◌, length, take, Some, None, Ok, refl, sym, ap, subst, ◌∙◌, arith, append_assoc, length-append}
+use Rattle.std.proofs.Common.{◌≡◌, ℕ, suc, ◌+◌, ◌-◌, ◌<◌, Bool, true, false, cond, List, [], ◌∷◌, ◌++◌, length, take, Some, None, Ok, refl, sym, ap, subst, ◌∙◌, arith, append_assoc, length-append, ◌==◌, ◌||◌, nat_le, nat_lt, not, IsUtf8}
 use Rattle.std.proofs.lemmas.Bool.Decides.{nat_tests}
 use Rattle.std.proofs.lemmas.Str.{is_utf8-from_IsUtf8}
-use Rattle.std.specs.Prelude.{◌==◌, ◌||◌, nat_le, nat_lt, not}
 use Rattle.std.specs.List.{All, position_or_len}
-use Rattle.std.specs.Str.{IsUtf8}
 use Rattle.ucd_points.specs.HexText.{hex_text}
 use Rattle.ucd_points.specs.Fields.{hex_number, if_point}
 use Rattle.ucd_points.specs.HexTextLaws.{IsUpperHex}

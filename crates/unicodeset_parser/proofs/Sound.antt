@@ -1,7 +1,6 @@
 -- What is read, the grammar spells.
-use Rattle.std.proofs.Common.{◌≡◌, ℕ, zero, suc, ◌+◌, ◌<◌, ◌≤◌, Bool, true, false, cond, List, [], ◌∷◌, length, Ok, Err, refl, sym, ap, subst, ◌∙◌, arith}
+use Rattle.std.proofs.Common.{◌≡◌, ℕ, zero, suc, ◌+◌, ◌<◌, ◌≤◌, Bool, true, false, cond, List, [], ◌∷◌, length, Ok, Err, refl, sym, ap, subst, ◌∙◌, arith, append-nil, nat_lt, nat_le}
 use Rattle.std.proofs.lemmas.Bool.Decides.{nat_tests}
-use Rattle.std.specs.Prelude.{nat_lt, nat_le}
 use Rattle.unicodeset_parser.specs.Grammar.{Stand, nothing, a_set, other, range, step_of, IsLetter, spelled_out, first_hyphen, IsChars, one as one_letter, up_to, IsSet, a_property, a_bracket, IsBody, closed, joined, met, taken, spelled, IsText}
 use Rattle.unicodeset_parser.specs.Machine as m
 use Rattle.unicodeset_parser.specs.Machine.{Fault, Frame, Mode, within, before, after, first, behind_set, elsewhere, pending, lacking, due, fresh, put, range_of, run, then_run}
@@ -11,7 +10,6 @@ use Rattle.unicodeset_parser.specs.declared.expr.Join.{Join}
 use Rattle.unicodeset_parser.specs.declared.stop.SetRule.TheVariants.{S4, S6}
 use Rattle.unicodeset_parser.specs.declared.expr.Join.TheVariants.{Union, Meet, Minus}
 use Rattle.unicodeset_parser.proofs.Complete.{with_steps, closed_more, complete}
-use Rattle.std.proofs.Common.{append-nil}
 
 abbrev mode_of : Stand → Mode
 mode_of nothing = first

@@ -1,7 +1,6 @@
 -- Where the reading of tokens stops.
-use Rattle.std.proofs.Common.{◌≡◌, ◌⊎◌, ℕ, true, List, [], ◌∷◌, ◌++◌, Result, Ok, Err, inl, inr, refl, sym, ap, ◌∙◌, arith, append_assoc}
+use Rattle.std.proofs.Common.{◌≡◌, ◌⊎◌, ℕ, true, List, [], ◌∷◌, ◌++◌, Result, Ok, Err, inl, inr, refl, sym, ap, ◌∙◌, arith, append_assoc, nat_le}
 use Rattle.std.proofs.lemmas.Bool.Decides.{nat_tests}
-use Rattle.std.specs.Prelude.{nat_le}
 use Rattle.unicodeset_parser.specs.Laws.{Begins}
 use Rattle.unicodeset_parser.specs.Machine as m
 use Rattle.unicodeset_parser.specs.Machine.{Fault, fault, State, Frame, within, before, after, first, behind_set, elsewhere, pending, lacking, due, put, range_of, step, run, finished, then_run}

@@ -1,10 +1,8 @@
 -- Parts of a text that ASCII bounds are texts.
-use Rattle.std.proofs.Common.{◌≡◌, ℕ, ◌+◌, ◌<◌, true, List, [], ◌∷◌, ◌++◌, length, take, drop, get_or, Option, Some, sym, subst, arith, append_assoc, length-append}
+use Rattle.std.proofs.Common.{◌≡◌, ℕ, ◌+◌, ◌<◌, true, List, [], ◌∷◌, ◌++◌, length, take, drop, get_or, Option, Some, sym, subst, arith, append_assoc, length-append, ◌==◌, IsUtf8, IsCharBoundary}
 use Rattle.std.proofs.Math.Seq.{get_or-append_seam, drop-append-add}
 use Rattle.std.proofs.lemmas.Bool.Decides.{nat_tests}
 use Rattle.std.proofs.lemmas.Str.{IsUtf8-drop, IsUtf8-take, IsCharBoundary-after_ascii, IsCharBoundary-before_ascii}
-use Rattle.std.specs.Prelude.{◌==◌}
-use Rattle.std.specs.Str.{IsUtf8, IsCharBoundary}
 use Rattle.bstr.specs.Find.{FindsNeedle}
 use Rattle.unicodeset_parser.specs.Bytes.{begins_with, found_at}
 use Rattle.unicodeset_parser.proofs.Found.{found_finds}

@@ -1,9 +1,8 @@
 -- The text of a tree whose names are UTF-8 is UTF-8.
-use Rattle.std.proofs.Common.{ℕ, ◌<◌, Bool, true, false, cond, List, [], ◌∷◌, ◌++◌, get_or, inl, inr, arith}
+use Rattle.std.proofs.Common.{ℕ, ◌<◌, Bool, true, false, cond, List, [], ◌∷◌, ◌++◌, get_or, inl, inr, arith, IsUtf8, IsAscii}
 use Rattle.std.proofs.lemmas.Str.{IsUtf8-append, IsUtf8-from_ascii, IsUtf8-nil}
 use Rattle.std.proofs.lemmas.List.Elements.{All-from_recursion}
 use Rattle.std.proofs.lemmas.Str.Ascii.{IsAscii-from_all}
-use Rattle.std.specs.Str.{IsUtf8, IsAscii}
 use Rattle.ucd_points.specs.HexText.{hex_text}
 use Rattle.ucd_points.specs.HexTextLaws.{IsUpperHex}
 use Rattle.ucd_points.specs.HexTextProofs.{hex_text_is_upper_case}

@@ -1,5 +1,4 @@
 -- White space in a text. UTS #35, "Unicode Sets"; UAX #31, section 4, "Pattern_White_Space".
---
 -- is_white c            the code point is white space: 0009 to 000D, 0020, 0085, 200E, 200F, 2028 or 2029
 -- white_size d          how many bytes a character takes that is white space; 0 for another, and for what is no character
 -- blank_size bs         the same of the first character of the bytes; 0 for no bytes

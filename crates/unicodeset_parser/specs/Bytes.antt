@@ -1,5 +1,4 @@
 -- Bytes at the front of a text, and words in it.
---
 -- begins_with b bs      the first byte is b; false for no bytes
 -- begins word bs        the bytes begin with the word
 -- found_at word bs      the first place where the word stands, which is not empty; None where it stands nowhere

@@ -1,5 +1,4 @@
 -- Escapes of characters. UTS #35, "Unicode Sets".
---
 -- spelled size number      a letter of that size, where hexadecimal digits write a code point; else a bad escape
 -- fixed_digits n bs        the escape whose n digits stand first in the bytes; two bytes stand before them
 -- braced_digits bs         the escape whose one to six digits a `}` ends; three bytes stand before them

@@ -1,5 +1,4 @@
 -- Which rule a fault is, by what may stand behind the tokens before it. UTS #35, "Unicode Sets".
---
 -- MaySet ps            a set may stand behind these tokens: some text begins with them and a property
 -- MayLetter ps         a character may: some text begins with them and a character
 -- Chooses s x y f      f is x where s holds, and y where it does not

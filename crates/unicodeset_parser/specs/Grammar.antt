@@ -1,7 +1,6 @@
 -- The grammar of UnicodeSets. UTS #35, "Unicode Sets".
 --
 -- The grammar goes over the tokens of a text. Each of its relations says what stands at the front of them, and which tokens stand behind.
---
 -- Stand                       what stands before in a bracket set: nothing; a set; another element
 -- IsLetter s p c              the token is the character c: an escape, a character that stands for itself, or a `-` that stands first
 -- IsChars s ps b rest         a character, or a range whose last character is not less than its first; b are its characters

@@ -1,5 +1,4 @@
 -- Laws of the grammar.
---
 -- ReadsExactly               tokens are read as a tree exactly where the grammar spells it, whatever the length of the text
 -- OneTree                    no tokens spell two trees
 -- Begins ps                  some text of the grammar begins with these tokens

@@ -1,5 +1,4 @@
 -- How a text is cut into tokens. UTS #35, "Unicode Sets".
---
 -- opening at bs      the token that begins with `[`, from what stands behind it: a property where a `:` follows, else a bracket set, the
 --                    complement of one where a `^` follows
 -- escape at bs       the token that begins with `\`, from what stands behind it

@@ -1,5 +1,4 @@
 -- Reading tokens from left to right. UTS #35, "Unicode Sets".
---
 -- Fault             the rule that a text breaks, and the place
 -- Frame             a bracket set that is open: whether its complement is meant, how it is joined to the one around it, its steps so far
 -- Mode              what may follow in the innermost bracket set

@@ -1,5 +1,4 @@
 -- The tree of a text, or the fault with the least place.
---
 -- parsed text                 what the tokens of the text give; S1 where it is not UTF-8, at the end of its longest front that is
 -- stop_of f                   the fault, as the code answers it
 -- stop_fault stop             the fault that the stop tells; None if memory ran out

@@ -1,14 +1,12 @@
 -- Properties in a text. UTS #35, "Unicode Sets".
---
 -- not_equal                      the bytes of 2260, the not-equal sign
 -- parted negated name at         the property of a name: its first `=` parts property and value; refused where the value begins with `/`
 -- property_sign negated name at  the property of a name, or its complement; refused where the name has a not-equal sign
 -- property_at at negated n closing bs   the property whose name goes to the first closing in the bytes; n bytes stand before it.
 --                                Unclosed where there is none
 -- braces at negated bs           the form `\p{NAME}` or `\P{NAME}`, from what stands behind its `p`
-use Rattle.std.specs.Prelude.{ℕ, ◌+◌, Bool, ◌==◌, nat_lt, List, [], ◌∷◌, length, take, Option, Some, None, if◌then◌else◌}
+use Rattle.std.specs.Prelude.{ℕ, ◌+◌, Bool, ◌==◌, nat_lt, List, [], ◌∷◌, length, take, Option, Some, None, if◌then◌else◌, is_some}
 use Rattle.std.specs.List.{position_or_len, before_first, after_first}
-use Rattle.std.specs.Option.{is_some}
 use Rattle.unicodeset_parser.specs.Bytes.{begins_with, found_at}
 use Rattle.unicodeset_parser.specs.Escapes.{bad_escape}
 use Rattle.unicodeset_parser.specs.Trees.{named, valued, negated_by}

@@ -1,7 +1,6 @@
 -- The text of a tree. UTS #35, "Unicode Sets".
 --
 -- Each word puts its text before the bytes `rest`.
---
 -- letter_onto c rest           the escape of a code point: `\u{`, its digits, `}`
 -- holds_brace name             a `}` stands in the name
 -- property_onto negated name rest   `\p{name}`, or `\P{name}` for the complement; where the name holds a `}`, `[:name:]` or `[:^name:]`
@@ -9,23 +8,19 @@
 -- element_onto t rest          the text of a tree; characters are a range
 -- steps_onto steps rest        the steps of a bracket set, and its `]`
 -- text_of t                    the text of a tree alone
---
 -- IsProperty negated name make  the name spells this property: its closing stands first behind it, it has no not-equal sign, its first `=`
 --                              parts what make says, and it does not begin with `^` where that would give the complement
 -- IsSetTree n t                the tree is of a set in which at most n bracket sets are open at once, and each name spells its property
 -- AreSteps n s steps           the steps may stand in a bracket set where s stands before: operators stand behind sets alone, and ranges
 --                              ascend, up to 10FFFF
 -- CanBeWritten t               a tree of a set with at most 64 bracket sets open at once
---
 -- unplaced t                   the tree with each place of a property left out
 -- TextsReadBack                the text of a tree that can be written, where it is UTF-8, is read as that tree, the places of its properties
 --                              aside
 -- ReadTreesCanBeWritten        each tree that a text is read as can be written
 -- ReadTreesAreText             the text of such a tree is UTF-8
 -- ReadTreesReadBack            so the text of such a tree is read as that tree again, the places of its properties aside
-use Rattle.std.specs.Prelude.{◌≡◌, ℕ, suc, ◌<◌, ◌≤◌, Bool, true, false, List, [], ◌∷◌, ◌++◌, length, Some, Ok, if◌then◌else◌}
-use Rattle.std.specs.Option.{is_some}
-use Rattle.std.specs.Str.{IsUtf8}
+use Rattle.std.specs.Prelude.{◌≡◌, ℕ, suc, ◌<◌, ◌≤◌, Bool, true, false, List, [], ◌∷◌, ◌++◌, length, Some, Ok, if◌then◌else◌, is_some, IsUtf8}
 use Rattle.ucd_points.specs.Bounds.{Bounds}
 use Rattle.ucd_points.specs.HexText.{hex_text}
 use Rattle.unicodeset_parser.specs.Bytes.{begins_with, found_at}

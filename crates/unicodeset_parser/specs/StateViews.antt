@@ -1,5 +1,4 @@
 -- The states that the code holds, as the definitions name them.
---
 -- frame_view f      an open bracket set
 -- frames_view fs    those around the innermost one, which the code keeps from the outside in
 -- mode_view m       what may follow

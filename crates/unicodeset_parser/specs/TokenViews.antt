@@ -1,5 +1,4 @@
 -- The tokens that the code holds, as the definitions name them.
---
 -- sign_view t      the token
 -- lexeme_view l    the token and its size
 use Rattle.unicodeset_parser.specs.Tokens.{Sign, open_set, close, dash, meet, letter, property, wrong, Lexed}

@@ -1,5 +1,4 @@
 -- The tokens of a text. UTS #35, "Unicode Sets".
---
 -- Sign               a token without its place. White space is no part of tokens
 --   open negated       `[`, or `[^` for the complement
 --   close              `]`

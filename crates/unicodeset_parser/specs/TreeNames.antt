@@ -1,5 +1,4 @@
 -- The names in a tree. UTS #35, "Unicode Sets".
---
 -- Name                a name in a tree
 --   alone name at         a property that is named alone; at is the place where it begins
 --   with_value p v at     a property with a value; at is the place where it begins

@@ -1,5 +1,4 @@
 -- Trees of UnicodeSets. UTS #35, "Unicode Sets".
---
 -- Tree                  what a text stands for
 --   chars b               the characters of a span
 --   named n at            a property that is named alone; at is the place where it begins

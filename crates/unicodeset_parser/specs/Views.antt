@@ -1,5 +1,4 @@
 -- The trees that the code holds, as the definitions name them.
---
 -- united b        the step that puts the characters of a span in union with what stands before it
 -- Seen            what an expression stands for
 --   one t           one tree
@@ -12,8 +11,7 @@
 -- tree_view x     the tree of an expression
 -- part_view p     the steps of a part
 -- parts_view ps   the steps of parts, in order
-use Rattle.std.specs.Prelude.{Bool, true, false, List, [], ◌∷◌, map}
-use Rattle.std.specs.List.{flat_map}
+use Rattle.std.specs.Prelude.{Bool, true, false, List, [], ◌∷◌, map, flat_map}
 use Rattle.ucd_points.specs.Bounds.{Bounds}
 use Rattle.unicodeset_parser.specs.Trees.{Tree, chars, named, valued, complement, bracket, Step, steps_of}
 use Rattle.unicodeset_parser.specs.declared.expr.Expr.{Expr}

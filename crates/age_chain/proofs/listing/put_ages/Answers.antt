@@ -1,5 +1,4 @@
-use Rattle.std.proofs.Common.{◌≡◌, refl, ◌∙◌, ◌++◌, ◌+◌, ℕ, List, sym, ap, subst, rules}
-use Rattle.std.specs.Prelude.{codes}
+use Rattle.std.proofs.Common.{◌≡◌, refl, ◌∙◌, ◌++◌, ◌+◌, ℕ, List, sym, ap, subst, rules, codes}
 use Rattle.std.proofs.lemmas.Result.{on_ok_weaker}
 use Rattle.range_table.specs.RunTable.{values_now}
 use Rattle.range_table.specs.Values.{point_count-is}

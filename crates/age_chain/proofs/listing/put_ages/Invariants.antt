@@ -1,5 +1,4 @@
-use Rattle.std.proofs.Common.{◌≡◌, ◌++◌}
-use Rattle.std.specs.Prelude.{codes}
+use Rattle.std.proofs.Common.{◌≡◌, ◌++◌, codes}
 use Rattle.range_table.specs.RunTable.{values_now}
 use Rattle.ucd_points.specs.Limits.{point_count}
 use Rattle.label_runs.specs.Sections.{section_head, IsWritten}

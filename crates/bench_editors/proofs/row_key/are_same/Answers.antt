@@ -1,5 +1,4 @@
-use Rattle.std.proofs.Common.{◌≡◌, ◌<◌, [], length, get_or, map, sym, ap, ◌∙◌, arith}
-use Rattle.std.specs.Str.{bytes_eq}
+use Rattle.std.proofs.Common.{◌≡◌, ◌<◌, [], length, get_or, map, sym, ap, ◌∙◌, arith, bytes_eq}
 use Rattle.std.proofs.lemmas.List.{get_or_read, get_or-map, length-map}
 use Rattle.bench_editors.proofs.KeyLemmas.{names_differ, names_on, told_apart, told_same}
 use Rattle.bench_editors.proofs.row_key.are_same.Goals as goal

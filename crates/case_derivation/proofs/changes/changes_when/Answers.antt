@@ -1,6 +1,4 @@
-use Rattle.std.proofs.Common.{◌≡◌, ℕ, Bool, List, ap, sym, not, ◌∙◌, ◌||◌, ◌+◌, ◌-◌, length, take, drop, length-drop, arith}
-use Rattle.std.proofs.lemmas.List.{take_all}
-use Rattle.std.specs.Str.{bytes_eq}
+use Rattle.std.proofs.Common.{◌≡◌, ℕ, Bool, List, ap, sym, not, ◌∙◌, ◌||◌, ◌+◌, ◌-◌, length, take, drop, length-drop, arith, take_all, bytes_eq}
 use Rattle.ucd_model.specs.Casing.{lower, upper, fold, lower_of, upper_of, fold_of}
 use Rattle.ucd_facts.specs.Facts.{Facts, image_points}
 use Rattle.ucd_facts.specs.Predicates.{cased}

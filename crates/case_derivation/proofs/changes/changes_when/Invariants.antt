@@ -1,6 +1,5 @@
-use Rattle.std.proofs.Common.{◌≡◌, drop, take}
+use Rattle.std.proofs.Common.{◌≡◌, drop, take, bytes_eq}
 use Rattle.std.specs.List.{list_any}
-use Rattle.std.specs.Str.{bytes_eq}
 use Rattle.ucd_model.specs.Casing.{lower, upper, title, fold}
 use Rattle.ucd_facts.specs.Predicates.{cased}
 use Rattle.case_derivation.specs.Steps.{titled}

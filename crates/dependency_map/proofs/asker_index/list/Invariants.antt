@@ -1,7 +1,7 @@
 use Rattle.std.proofs.Common.{◌≡◌, ℕ, true, take}
 use Rattle.number_sets.specs.Keys.{has}
-use Rattle.ucd_facts.specs.declared.query.Query.{Query as Question}
 use Rattle.ucd_facts.specs.Answers.{is_asked}
+use Rattle.ucd_facts.specs.declared.query.Query.{Query as Question}
 use Rattle.dependency_map.specs.Index.{may_ask}
 use Rattle.dependency_map.proofs.asker_index.list.Given as goal
 

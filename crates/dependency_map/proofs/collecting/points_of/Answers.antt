@@ -1,5 +1,4 @@
-use Rattle.std.proofs.Common.{◌∙◌, ℕ, ◌+◌, ◌<◌, Bool, List, [], ◌∷◌, ◌++◌, ap, sym, append_assoc}
-use Rattle.std.proofs.lemmas.List.{append-nil}
+use Rattle.std.proofs.Common.{◌∙◌, ℕ, ◌+◌, ◌<◌, Bool, List, [], ◌∷◌, ◌++◌, ap, sym, append_assoc, append-nil}
 use Rattle.number_sets.specs.Keys.{has}
 use Rattle.dependency_map.specs.Askers.{points_from}
 use Rattle.dependency_map.proofs.PointLemmas.{points_none, points_next}

@@ -1,5 +1,4 @@
-use Rattle.std.proofs.Common.{◌≡◌, map, take}
-use Rattle.std.specs.List.{flat_map}
+use Rattle.std.proofs.Common.{◌≡◌, map, take, flat_map}
 use Rattle.ucd_points.specs.Limits.{point_count}
 use Rattle.ucd_model.specs.DerivedFiles.{section_of}
 use Rattle.derived_writer.specs.Listings.{listing_section}

@@ -1,9 +1,9 @@
 use Rattle.std.proofs.Common.{◌≡◌, ℕ, [], ◌∷◌, Ok, refl, ap, sym, ◌∙◌}
 use Rattle.ucd_facts.specs.Facts.{Facts}
+use Rattle.ucd_facts.specs.declared.image.Image.{Image}
 use Rattle.ucd_model.specs.Forms.{nfkc}
 use Rattle.ucd_facts.specs.Predicates.{default_ignorable}
 use Rattle.ucd_facts.specs.Shown.{shown_facts}
-use Rattle.ucd_facts.specs.declared.image.Image.{Image}
 use Rattle.fold_rounds.specs.RoundProofs.{alone_form, alone_image, unfolded, ignored}
 use Rattle.fold_rounds.proofs.casefold.casefold_of.Goals as goal
 

@@ -1,5 +1,4 @@
-use Rattle.std.proofs.Common.{◌≡◌, ℕ, true, Some, None, refl, sym, ◌∙◌, inl}
-use Rattle.std.specs.Str.{bytes_eq}
+use Rattle.std.proofs.Common.{◌≡◌, ℕ, true, Some, None, refl, sym, ◌∙◌, inl, bytes_eq}
 use Rattle.ucd_facts.specs.Facts.{Facts}
 use Rattle.ucd_model.specs.FoldRounds.{short_nfkc}
 use Rattle.fold_rounds.specs.RoundProofs.{found_first_none, found_settled}

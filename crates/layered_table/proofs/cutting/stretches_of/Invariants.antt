@@ -1,5 +1,4 @@
-use Rattle.std.proofs.Common.{◌≡◌, ℕ, ◌-◌, ◌<◌, ◌≤◌, ◌&&◌}
-use Rattle.std.specs.Prelude.{nat_eq, nat_lt}
+use Rattle.std.proofs.Common.{◌≡◌, ℕ, ◌-◌, ◌<◌, ◌≤◌, ◌&&◌, nat_eq, nat_lt}
 use Rattle.std.specs.List.{list_any}
 use Rattle.layered_table.specs.Layers.{puts}
 use Rattle.layered_table.proofs.cutting.stretches_of.Given as goal

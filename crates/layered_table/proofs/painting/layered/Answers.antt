@@ -1,5 +1,4 @@
-use Rattle.std.proofs.Common.{ap, ◌∙◌, arith}
-use Rattle.std.proofs.lemmas.List.{take_all}
+use Rattle.std.proofs.Common.{ap, ◌∙◌, arith, take_all}
 use Rattle.layered_table.specs.Layers.{word_at}
 use Rattle.layered_table.proofs.painting.layered.Goals as goal
 

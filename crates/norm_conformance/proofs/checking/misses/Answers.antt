@@ -1,5 +1,4 @@
-use Rattle.std.proofs.Common.{◌≡◌, ◌++◌, ap, ◌∙◌}
-use Rattle.std.specs.List.{flat_map}
+use Rattle.std.proofs.Common.{◌≡◌, ◌++◌, ap, ◌∙◌, flat_map}
 use Rattle.number_sets.specs.Keys.{has}
 use Rattle.norm_conformance.specs.Misses.{is_listed, line_misses, unlisted_misses}
 use Rattle.norm_conformance.proofs.PointLemmas.{misses_with, misses_without}

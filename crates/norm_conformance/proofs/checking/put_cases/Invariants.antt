@@ -1,5 +1,4 @@
-use Rattle.std.proofs.Common.{◌≡◌, ◌++◌, take}
-use Rattle.std.specs.List.{flat_map}
+use Rattle.std.proofs.Common.{◌≡◌, ◌++◌, take, flat_map}
 use Rattle.norm_conformance.specs.Misses.{line_misses}
 use Rattle.norm_conformance.proofs.checking.put_cases.Given as goal
 

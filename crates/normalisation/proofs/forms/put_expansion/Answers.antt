@@ -1,6 +1,5 @@
-use Rattle.std.proofs.Common.{◌≡◌, ℕ, true, ◌==◌, List, [], length, Ok, ap, sym, ◌∙◌}
+use Rattle.std.proofs.Common.{◌≡◌, ℕ, true, ◌==◌, List, [], length, Ok, ap, sym, ◌∙◌, eqb-true}
 use Rattle.std.proofs.lemmas.List.{nil_from_length}
-use Rattle.std.proofs.lemmas.Bool.{eqb-true}
 use Rattle.ucd_model.specs.Forms.{appended}
 use Rattle.normalisation.specs.FormLemmas.{expansion_alone}
 use Rattle.normalisation.proofs.forms.put_expansion.Goals as goal

@@ -1,5 +1,4 @@
-use Rattle.std.proofs.Common.{◌-◌, arith}
-use Rattle.std.proofs.lemmas.Bool.{ltb-true}
+use Rattle.std.proofs.Common.{◌-◌, arith, ltb-true}
 use Rattle.number_sets.proofs.KeyLemmas.{behind_all}
 use Rattle.number_sets.proofs.keys.is_behind.Goals as goal
 

@@ -1,6 +1,6 @@
 -- `read` reads one word through a raw pointer into the slice: a walk of its MIR by hand.
 -- A walk is a list of steps over a context, the things that are owned, which comments show as [first; second; ..].
-use Rattle.std.proofs.Common.{ℕ, ◌+◌, ◌*◌, ◌^◌, ◌<◌, List, [], ◌∷◌, length, get_or, sym, refl, arith, w64}
+use Rattle.std.proofs.Common.{ℕ, ◌+◌, ◌*◌, ◌^◌, ◌<◌, List, [], ◌∷◌, length, get_or, sym, refl, arith, w64, Bor}
 use seplogic.Ra.Ura.{Ura}
 use mir.Syntax.{Body, ty_int, named, seq, assign, place, rv_opd, copy, return}
 use mir.Val.{Val, vint}
@@ -22,7 +22,6 @@ use denote.Exit.{yes}
 use denote.RattleType.{owns}
 use denote.Memory.{part_at, shares}
 use denote.Plain.{uint_vals, uint_Tells, uint_in, uint_out, uint_Makes}
-use denote.Ref.{Bor}
 use denote.Slice.{ShrSlice, Room, slice_val, shr_slice_vals, shr_slice_Tells}
 use denote.Index.{row, others, takes, puts_back, place_is, looks_slice, shuts_slice, place as nth}
 use denote.Builtin.{u64, usize, SliceRefOf}

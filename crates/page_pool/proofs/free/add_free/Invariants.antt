@@ -1,6 +1,4 @@
-use Rattle.std.proofs.Common.{◌≡◌, ◌+◌, ◌-◌, ◌++◌, false, not, replicate, vec_len}
-use Rattle.std.specs.Vec.{vec_capacity}
-use Rattle.std.specs.List.{count_by}
+use Rattle.std.proofs.Common.{◌≡◌, ◌+◌, ◌-◌, ◌++◌, false, not, replicate, vec_len, vec_capacity, count_by}
 use Rattle.page_pool.specs.Pool.{IsFree}
 use Rattle.page_pool.proofs.free.add_free.Given as goal
 

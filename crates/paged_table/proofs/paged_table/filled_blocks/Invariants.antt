@@ -1,5 +1,4 @@
-use Rattle.std.proofs.Common.{◌≡◌, ℕ, ◌<◌, ◌≤◌, vec_len}
-use Rattle.std.specs.Vec.{vec_capacity}
+use Rattle.std.proofs.Common.{◌≡◌, ℕ, ◌<◌, ◌≤◌, vec_len, vec_capacity}
 use Rattle.paged_table.specs.declared.block.Block.TheVariants.{One}
 use Rattle.paged_table.specs.Blocks.{block_at}
 use Rattle.paged_table.proofs.paged_table.filled_blocks.Given as goal

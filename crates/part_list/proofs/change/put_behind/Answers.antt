@@ -1,5 +1,4 @@
-use Rattle.std.proofs.Common.{◌<◌, length, sym, ◌∙◌, arith}
-use Rattle.std.proofs.lemmas.List.{append-nil}
+use Rattle.std.proofs.Common.{◌<◌, length, sym, ◌∙◌, arith, append-nil}
 use Rattle.part_list.proofs.FlatLemmas.{parts-cut}
 use Rattle.part_list.proofs.change.put_behind.Goals as goal
 

@@ -1,5 +1,4 @@
-use Rattle.std.proofs.Common.{◌≡◌, sym, subst, ◌∙◌}
-use Rattle.std.specs.List.{filter}
+use Rattle.std.proofs.Common.{◌≡◌, sym, subst, ◌∙◌, filter}
 use Rattle.part_list.specs.PartValues.{has_entries, parts_now, parts_next}
 use Rattle.part_list.proofs.FlatLemmas.{flat-kept_now, flat-kept_next, parts_now-committed, parts_next-committed}
 use Rattle.part_list.proofs.GuideLemmas.{same_kept}

@@ -1,5 +1,4 @@
-use Rattle.std.proofs.Common.{◌≡◌, ℕ, ◌+◌, ◌-◌, ◌*◌, ◌/◌, ◌%◌, subst, arith}
-use Rattle.std.specs.List.{All}
+use Rattle.std.proofs.Common.{◌≡◌, ℕ, ◌+◌, ◌-◌, ◌*◌, ◌/◌, ◌%◌, subst, arith, All}
 use Rattle.part_list.specs.Guides.{width}
 use Rattle.part_list.specs.Parts.{part_at}
 use Rattle.part_list.specs.PartValues.{parts_next}

@@ -1,7 +1,5 @@
-use Rattle.std.proofs.Common.{◌≡◌, ◌+◌, ◌*◌, List, [], ◌∷◌, ◌++◌, ◌∙◌, length, subst, sym, ap, arith}
-use Rattle.std.specs.List.{All}
+use Rattle.std.proofs.Common.{◌≡◌, ◌+◌, ◌*◌, List, [], ◌∷◌, ◌++◌, ◌∙◌, length, subst, sym, ap, arith, All, length-append}
 use Rattle.part_list.specs.declared.reach.Reach.{Reach}
-use Rattle.std.proofs.lemmas.List.{length-append}
 use Rattle.part_list.specs.Guides.{Covers, width}
 use Rattle.part_list.specs.Parts.{part_at}
 use Rattle.part_list.specs.PartValues.{parts_next}

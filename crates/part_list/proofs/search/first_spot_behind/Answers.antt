@@ -1,5 +1,4 @@
-use Rattle.std.proofs.Common.{◌≡◌, ◌+◌, ◌<◌, Some, None, drop, false, length, subst, arith}
-use Rattle.std.specs.List.{All}
+use Rattle.std.proofs.Common.{◌≡◌, ◌+◌, ◌<◌, Some, None, drop, false, length, subst, arith, All}
 use Rattle.std.proofs.lemmas.List.{length-map, take_all}
 use Rattle.part_list.specs.Finds.{FirstIn}
 use Rattle.part_list.specs.Parts.{flat}

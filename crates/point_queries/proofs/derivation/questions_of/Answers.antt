@@ -1,8 +1,8 @@
 use Rattle.std.proofs.Common.{◌≡◌, ℕ, [], ◌∷◌, ◌++◌, List, sym, ap, ◌∙◌}
 use Rattle.ucd_facts.specs.Facts.{Facts}
-use Rattle.ucd_facts.specs.declared.query.Query.{Query}
 use Rattle.ucd_facts.specs.declared.query.Query.TheVariants.{Row, Second}
 use Rattle.ucd_facts.specs.Answers.{is_asked}
+use Rattle.ucd_facts.specs.declared.query.Query.{Query}
 use Rattle.point_queries.specs.Derivation.{plain_asked, asked_is, other_asks}
 use Rattle.point_queries.proofs.derivation.questions_of.Goals as goal
 

@@ -3,13 +3,13 @@ use Rattle.std.specs.List.Sorted.{IsStrictlySortedBy}
 use Rattle.std.proofs.lemmas.Bool.{eqb-true, and_parts}
 use Rattle.std.proofs.lemmas.List.Filters.{dedup_is}
 use Rattle.std.proofs.lemmas.List.Sorted.{IsPermutation-refl}
-use Rattle.ucd_facts.specs.declared.query.Query.{Query}
 use Rattle.ucd_facts.specs.declared.query.Query.TheVariants.{Row, Pair, Second}
 use Rattle.ucd_facts.specs.contracts.query.QueryPartialEq.TheImpl as equality
 use Rattle.ucd_facts.specs.contracts.query.QueryOrd.TheImpl as ordering
 use Rattle.ucd_facts.specs.contracts.query.QueryOrd.TheImpl.Laws.{total-law, matches_eq-law}
 use Rattle.ucd_facts.specs.contracts.query.QueryEq.TheImpl.Laws.{laws-law}
 use Rattle.ucd_facts.specs.Answers.{is_asked}
+use Rattle.ucd_facts.specs.declared.query.Query.{Query}
 use Rattle.point_queries.specs.QueryLists.{set_has, set_rises}
 use Rattle.point_queries.proofs.query_list.query_set.Goals as goal
 

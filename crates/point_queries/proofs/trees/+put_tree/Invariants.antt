@@ -1,5 +1,4 @@
-use Rattle.std.proofs.Common.{◌≡◌, ◌-◌, ◌++◌, drop}
-use Rattle.std.specs.List.{flat_map}
+use Rattle.std.proofs.Common.{◌≡◌, ◌-◌, ◌++◌, drop, flat_map}
 use Rattle.query_laws.specs.Questions.{tree, row_queries}
 use Rattle.point_queries.proofs.trees.+put_tree.Given as goal
 

@@ -1,6 +1,4 @@
-use Rattle.std.proofs.Common.{List, ℕ, Some, sym, ap, ◌∙◌}
-use Rattle.std.specs.Option.{option_map}
-use Rattle.std.specs.Str.{bytes_eq}
+use Rattle.std.proofs.Common.{List, ℕ, Some, sym, ap, ◌∙◌, option_map, bytes_eq}
 use Rattle.std.proofs.lemmas.Option.{slice_get-map}
 use Rattle.std.proofs.lemmas.Slice.Eq.{bytes_eq-Decides}
 use Rattle.property_aliases.proofs.file_values.is_number.Goals as goal

@@ -1,5 +1,4 @@
-use Rattle.std.proofs.Common.{map, sym, ap, ◌∙◌}
-use Rattle.std.specs.Str.{bytes_eq}
+use Rattle.std.proofs.Common.{map, sym, ap, ◌∙◌, bytes_eq}
 use Rattle.property_aliases.specs.Numbers.{names_in}
 use Rattle.property_aliases.specs.Sources.{add_name}
 use Rattle.property_aliases.proofs.Lookups.{add_name_is, placed_at}

@@ -1,5 +1,4 @@
-use Rattle.std.proofs.Common.{◌≡◌, ◌∷◌, ◌++◌, [], ℕ, List, Some, refl, sym, subst}
-use Rattle.std.specs.Prelude.{slice_get}
+use Rattle.std.proofs.Common.{◌≡◌, ◌∷◌, ◌++◌, [], ℕ, List, Some, refl, sym, subst, slice_get}
 use Rattle.ucd_facts.specs.declared.row.ValueRow.{ValueRow}
 use Rattle.property_aliases.specs.Numbers.{AreNumbered, names_in}
 use Rattle.property_aliases.specs.Sources.{add_name}

@@ -1,5 +1,4 @@
-use Rattle.std.proofs.Common.{◌≡◌, [], ℕ, List, fold, map, ap, subst, ◌∙◌}
-use Rattle.std.specs.Prelude.{IfOk}
+use Rattle.std.proofs.Common.{◌≡◌, [], ℕ, List, fold, map, ap, subst, ◌∙◌, IfOk}
 use Rattle.release_rows.specs.FileLemmas.{rows_of_numbered}
 use Rattle.release_rows.specs.Releases.{items_now, rows_now}
 use Rattle.ucd_facts.specs.declared.row.Row.{Row}

@@ -1,5 +1,4 @@
-use Rattle.std.proofs.Common.{◌-◌, Option, sym, ap}
-use Rattle.std.specs.Prelude.{unwrap_or}
+use Rattle.std.proofs.Common.{◌-◌, Option, sym, ap, unwrap_or}
 use Rattle.std.proofs.lemmas.Option.{slice_get_past}
 use Rattle.property_aliases.specs.declared.property.Property.{Property}
 use Rattle.property_aliases.specs.declared.property.Property.TheVariants.{Listed}

@@ -1,5 +1,4 @@
-use Rattle.std.proofs.Common.{◌≡◌, ◌-◌, ◌≤◌, map}
-use Rattle.std.specs.Fmt.{decimal}
+use Rattle.std.proofs.Common.{◌≡◌, ◌-◌, ◌≤◌, map, decimal}
 use Rattle.std.specs.List.{range_with_len}
 use Rattle.property_aliases.proofs.kinds.class_names.Given as goal
 

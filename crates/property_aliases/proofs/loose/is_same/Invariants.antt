@@ -1,5 +1,4 @@
-use Rattle.std.proofs.Common.{◌≡◌, length}
-use Rattle.std.specs.Str.{bytes_eq}
+use Rattle.std.proofs.Common.{◌≡◌, length, bytes_eq}
 use Rattle.property_aliases.specs.Loose.{loose}
 use Rattle.property_aliases.proofs.loose.is_same.Given as goal
 

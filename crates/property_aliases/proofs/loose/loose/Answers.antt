@@ -1,5 +1,4 @@
-use Rattle.std.proofs.Common.{ap, ◌∙◌, arith}
-use Rattle.std.proofs.lemmas.List.{take_all}
+use Rattle.std.proofs.Common.{ap, ◌∙◌, arith, take_all}
 use Rattle.property_aliases.specs.Loose.{loose}
 use Rattle.property_aliases.proofs.LooseLaws.{loose_again}
 use Rattle.property_aliases.proofs.loose.loose.Goals as goal

@@ -1,7 +1,5 @@
-use Rattle.std.proofs.Common.{◌≡◌, length}
+use Rattle.std.proofs.Common.{◌≡◌, length, flat_map, fold}
 use Rattle.std.specs.Hash as fed
-use Rattle.std.specs.List.{flat_map}
-use Rattle.std.specs.Prelude.{fold}
 use Rattle.property_aliases.specs.Loose.{loose}
 use Rattle.property_aliases.proofs.loose_name.hash_loose.Given as goal
 

@@ -1,5 +1,4 @@
-use Rattle.std.proofs.Common.{◌≡◌, List, ap, subst, ◌∙◌}
-use Rattle.std.specs.Prelude.{IfOk}
+use Rattle.std.proofs.Common.{◌≡◌, List, ap, subst, ◌∙◌, IfOk}
 use Rattle.property_aliases.specs.Sources.{alias_rows, unnumbered}
 use Rattle.release_rows.specs.FileLemmas.{rows_of_numbered}
 use Rattle.release_rows.specs.Releases.{items_now, rows_now}

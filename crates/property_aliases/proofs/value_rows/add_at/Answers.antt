@@ -1,8 +1,7 @@
-use Rattle.std.proofs.Common.{◌≡◌, ◌<◌, ℕ, Bool, true, false, cond, List, [], ◌∷◌, length, Option, Some, None, Result, Ok, Err, OnOk, refl, sym, ap, ◌∙◌, arith}
-use Rattle.std.specs.Prelude.{nat_eq, slice_get, slice_set, if◌then◌else◌}
+use Rattle.std.proofs.Common.{◌≡◌, ◌<◌, ℕ, Bool, true, false, cond, List, [], ◌∷◌, length, Option, Some, None, refl, sym, ap, ◌∙◌, arith, nat_eq, slice_get, slice_set, if◌then◌else◌, eqb-true}
 use Rattle.std.specs.Option.{option_map_or}
-use Rattle.std.proofs.lemmas.Bool.{eqb-true}
 use Rattle.std.proofs.lemmas.Option.{slice_get_read}
+use Rattle.std.proofs.lemmas.Result.{on_ok_weaker}
 use Rattle.property_aliases.specs.Kinds.{kind_of, number_at}
 use Rattle.property_aliases.specs.NumberMaps.{number_in}
 use Rattle.property_aliases.specs.Properties.{property_by}
@@ -10,10 +9,6 @@ use Rattle.property_aliases.specs.ResolvingLaws.{least, least_none, put, row_num
 use Rattle.property_aliases.specs.declared.number_map.NumberMap.{NumberMap}
 use Rattle.property_aliases.proofs.NumbersAt.{number_at_set}
 use Rattle.property_aliases.proofs.value_rows.add_at.Goals as goal
-
-on_ok : {T E P Q : Type 0} (r : Result T E) → (P → Q) → OnOk r P → OnOk r Q
-on_ok (Ok x) f p = f p
-on_ok (Err e) f p = p
 
 -- a row more in the map with an index
 one_more : (before reached : List NumberMap) (at : ℕ) (old new direct : NumberMap) (f : ℕ → List ℕ → Option ℕ) (row : List (List ℕ))
@@ -50,4 +45,4 @@ returns c =
     ∙ ap {B = List ℕ → Option ℕ} (λ (m : Option NumberMap) key. option_map_or (λ x. number_in x key) m None) found in
     let reached = c.reach.new.maps.items in
     let slot = slice_get_read reached (length reached) c.args.index c.index_mut.result.now refl c.in_ok-reach.ensures.reached c.index_mut.ensures.value in
-    on_ok c.add_row.result (one_more c.args.maps.now.items reached c.args.index c.index_mut.result.now c.add_row.new.rows c.index-kinds-kind_of.result f c.args.row.now c.in_ok-reach.ensures.reached c.in_ok-reach.ensures.numbers slot from) c.add_row.ensures
+    on_ok_weaker c.add_row.result (one_more c.args.maps.now.items reached c.args.index c.index_mut.result.now c.add_row.new.rows c.index-kinds-kind_of.result f c.args.row.now c.in_ok-reach.ensures.reached c.in_ok-reach.ensures.numbers slot from) c.add_row.ensures

@@ -1,5 +1,4 @@
-use Rattle.std.proofs.Common.{◌≡◌, ℕ, List, length}
-use Rattle.std.specs.List.{flat_map}
+use Rattle.std.proofs.Common.{◌≡◌, ℕ, List, length, flat_map}
 use Rattle.property_aliases.specs.Kinds.{kind_of, number_at}
 use Rattle.property_aliases.specs.NumberMaps.{index_in_names}
 use Rattle.property_aliases.specs.Properties.{property_by}

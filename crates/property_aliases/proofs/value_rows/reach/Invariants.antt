@@ -1,5 +1,4 @@
-use Rattle.std.proofs.Common.{◌≡◌, ◌+◌, ◌-◌, ℕ, List}
-use Rattle.std.specs.Prelude.{vec_len}
+use Rattle.std.proofs.Common.{◌≡◌, ◌+◌, ◌-◌, ℕ, List, vec_len}
 use Rattle.property_aliases.specs.Kinds.{number_at}
 use Rattle.property_aliases.proofs.value_rows.reach.Given as goal
 

@@ -1,6 +1,4 @@
-use Rattle.std.proofs.Common.{◌≡◌, ℕ, List, subst, ap, ◌∙◌}
-use Rattle.std.specs.Prelude.{IfOk}
-use Rattle.std.specs.List.{flat_map}
+use Rattle.std.proofs.Common.{◌≡◌, ℕ, List, subst, ap, ◌∙◌, IfOk, flat_map}
 use Rattle.property_aliases.specs.Kinds.{kind_of, number_at}
 use Rattle.property_aliases.specs.NumberMaps.{index_in_names}
 use Rattle.property_aliases.specs.Properties.{property_by}

@@ -1,6 +1,4 @@
-use Rattle.std.proofs.Common.{sym, ap, ◌∙◌}
-use Rattle.std.specs.Prelude.{slice_get}
-use Rattle.std.proofs.lemmas.List.{append-nil}
+use Rattle.std.proofs.Common.{sym, ap, ◌∙◌, slice_get, append-nil}
 use Rattle.record_lines.proofs.file_lines.put_line.Goals as goal
 
 pub returns-in-Some-clause-text : goal.returns-in-Some-clause-text

@@ -1,5 +1,4 @@
-use Rattle.std.proofs.Common.{◌≤◌, length, sym, arith}
-use Rattle.std.proofs.lemmas.List.{append-nil}
+use Rattle.std.proofs.Common.{◌≤◌, length, sym, arith, append-nil}
 use Rattle.record_lines.proofs.LineLemmas.{none_behind}
 use Rattle.record_lines.proofs.file_lines.put_next.Goals as goal
 

@@ -1,5 +1,4 @@
-use Rattle.std.proofs.Common.{◌≡◌, ◌++◌, take}
-use Rattle.std.specs.List.{flat_map}
+use Rattle.std.proofs.Common.{◌≡◌, ◌++◌, take, flat_map}
 use Rattle.ucd_model.specs.Records.{kept_record}
 use Rattle.record_lines.specs.RecordTexts.{file_values}
 use Rattle.record_lines.proofs.record_text.put_values.Given as goal

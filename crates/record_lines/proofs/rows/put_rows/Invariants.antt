@@ -1,5 +1,4 @@
-use Rattle.std.proofs.Common.{◌≡◌, take, map}
-use Rattle.std.specs.List.{flat_map}
+use Rattle.std.proofs.Common.{◌≡◌, take, map, flat_map}
 use Rattle.release_rows.specs.Releases.{items_now}
 use Rattle.record_lines.specs.PointTexts.{with_more}
 use Rattle.record_lines.specs.RowLines.{file_rows_text}

@@ -1,5 +1,4 @@
-use Rattle.std.proofs.Common.{◌∙◌, List, ℕ, ◌++◌, ap, sym, append_assoc}
-use Rattle.std.proofs.lemmas.List.{append-nil}
+use Rattle.std.proofs.Common.{◌∙◌, List, ℕ, ◌++◌, ap, sym, append_assoc, append-nil}
 use Rattle.release_maker.specs.MadeTexts.{series, line_text}
 use Rattle.release_maker.specs.Lines.{line_of}
 use Rattle.release_maker.proofs.SeriesLemmas.{series_none, series_more}

@@ -1,5 +1,4 @@
-use Rattle.std.proofs.Common.{◌≡◌, ◌++◌, length, map}
-use Rattle.std.specs.List.{All}
+use Rattle.std.proofs.Common.{◌≡◌, ◌++◌, length, map, All}
 use Rattle.release_rows.specs.FileItems.{bytes_of}
 use Rattle.release_rows.specs.StoredItems.{stored_at, IsStored}
 use Rattle.release_rows.proofs.join.joined.Given as goal

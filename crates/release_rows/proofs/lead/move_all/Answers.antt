@@ -1,5 +1,4 @@
-use Rattle.std.proofs.Common.{◌<◌, length, sym, subst, ◌∙◌, arith}
-use Rattle.std.proofs.lemmas.List.{get_or-set_other, length-set}
+use Rattle.std.proofs.Common.{◌<◌, length, sym, subst, ◌∙◌, arith, get_or-set_other, length-set}
 use Rattle.release_rows.specs.Leads.{IsLead}
 use Rattle.release_rows.specs.Operations.{put_in}
 use Rattle.release_rows.proofs.Leads.{moved_more}

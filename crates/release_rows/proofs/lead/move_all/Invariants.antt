@@ -1,6 +1,5 @@
 use Rattle.std.proofs.Common.{◌≡◌, ℕ, ◌-◌, ◌<◌, ◌≤◌, List, length, get_or, Some}
-use Rattle.ucd_facts.specs.declared.row.Row.{Row}
-use Rattle.release_rows.specs.FileItems.{FileItem}
+use Rattle.release_rows.specs.FileItems.{FileItem, Row}
 use Rattle.release_rows.specs.Leads.{AreLeads, IsLead}
 use Rattle.release_rows.specs.Operations.{put_in}
 use Rattle.release_rows.specs.Searches.{IsSoughtRow}

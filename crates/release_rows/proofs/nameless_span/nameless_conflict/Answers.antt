@@ -1,5 +1,4 @@
-use Rattle.std.proofs.Common.{◌≡◌, true, false, length, refl, sym, arith}
-use Rattle.std.specs.Prelude.{◌==◌}
+use Rattle.std.proofs.Common.{◌≡◌, true, false, length, refl, sym, arith, ◌==◌}
 use Rattle.std.proofs.lemmas.Bool.Decides.{nat_tests}
 use Rattle.release_rows.proofs.NamelessConflicts.{named, unnamed}
 use Rattle.release_rows.proofs.nameless_span.nameless_conflict.Goals as goal

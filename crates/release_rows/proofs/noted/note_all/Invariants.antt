@@ -1,5 +1,4 @@
-use Rattle.std.proofs.Common.{length, map}
-use Rattle.std.specs.List.{All}
+use Rattle.std.proofs.Common.{length, map, All}
 use Rattle.part_list.specs.SeenNumbers.{Grows}
 use Rattle.part_list.specs.declared.seen_numbers.SeenNumbers.{SeenNumbers}
 use Rattle.release_rows.specs.Noted.{AreNoted}

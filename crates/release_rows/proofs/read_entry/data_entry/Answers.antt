@@ -1,10 +1,9 @@
 use Rattle.std.proofs.Common.{◌≡◌, ◌≤◌, [], Result, Ok, Err, sym, ap, ◌∙◌, arith}
 use Rattle.ucd_points.specs.Bounds.{Bounds}
 use Rattle.ucd_points.specs.declared.files.SourceFile.TheVariants.{UnicodeData}
-use Rattle.ucd_facts.specs.declared.row.Row.{Row}
 use Rattle.ucd_facts.specs.declared.row.Row.TheVariants.{Unit as DataLine, Value as ValueLine, Exclusion as ExclusionLine, Fold as FoldLine, Casing as CasingLine, Alias as AliasLine, Missing as MissingLine}
 use Rattle.source_rows.specs.PointValues.{PointValuesAs}
-use Rattle.source_rows.specs.Faults.{row_or_fault}
+use Rattle.source_rows.specs.Faults.{row_or_fault, Row}
 use Rattle.source_rows.specs.declared.fault.RowFault.{RowFault}
 use Rattle.source_rows.specs.declared.point_values.PointValues.{PointValues}
 use Rattle.release_rows.specs.Briefs.{brief_by}

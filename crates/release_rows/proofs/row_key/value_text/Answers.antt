@@ -1,7 +1,6 @@
 use Rattle.std.proofs.Common.{ℕ, List, sym, ap, ◌∙◌}
 use Rattle.std.proofs.lemmas.Result.{IfOk-weaker}
-use Rattle.ucd_points.specs.declared.files.SourceFile.{SourceFile}
-use Rattle.source_rows.specs.Keys.{value_names}
+use Rattle.source_rows.specs.Keys.{value_names, SourceFile}
 use Rattle.release_rows.specs.Places.{names_of}
 use Rattle.release_rows.proofs.KeyTexts.{one_name}
 use Rattle.release_rows.proofs.row_key.value_text.Goals as goal

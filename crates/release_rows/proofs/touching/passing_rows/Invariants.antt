@@ -1,5 +1,4 @@
-use Rattle.std.proofs.Common.{◌≡◌, ◌++◌, length, map}
-use Rattle.std.specs.List.{All}
+use Rattle.std.proofs.Common.{◌≡◌, ◌++◌, length, map, All}
 use Rattle.release_rows.specs.FileItems.{rows_in}
 use Rattle.release_rows.specs.StoredItems.{stored_at, IsStored}
 use Rattle.release_rows.proofs.touching.passing_rows.Given as goal

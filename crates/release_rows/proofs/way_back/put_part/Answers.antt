@@ -1,5 +1,4 @@
-use Rattle.std.proofs.Common.{◌+◌, length, map, drop, take, sym, ap, subst, ◌∙◌, arith}
-use Rattle.std.specs.List.{All}
+use Rattle.std.proofs.Common.{◌+◌, length, map, drop, take, sym, ap, subst, ◌∙◌, arith, All}
 use Rattle.std.proofs.lemmas.List.{length-map}
 use Rattle.std.proofs.lemmas.Result.{on_ok_weaker}
 use Rattle.part_list.specs.Parts.{flat}

@@ -1,6 +1,4 @@
-use Rattle.std.proofs.Common.{subst}
-use Rattle.std.specs.Prelude.{IfOk}
-use Rattle.std.specs.List.{All}
+use Rattle.std.proofs.Common.{subst, IfOk, All}
 use Rattle.script_lines.specs.Groups.{IsWellFormed}
 use Rattle.run_inputs.proofs.script.read_script.Goals as goal
 

@@ -1,5 +1,4 @@
-use Rattle.std.proofs.Common.{ℕ, ap, ◌∙◌}
-use Rattle.std.specs.Prelude.{◌&&◌, nat_lt}
+use Rattle.std.proofs.Common.{ℕ, ap, ◌∙◌, ◌&&◌, nat_lt}
 use Rattle.release_rows.specs.Releases.{rows_now}
 use Rattle.ucd_model.specs.Records.{Record}
 use Rattle.ucd_points.specs.Limits.{point_count}

@@ -1,5 +1,4 @@
-use Rattle.std.proofs.Common.{◌≡◌, ◌++◌, take}
-use Rattle.std.specs.List.{flat_map}
+use Rattle.std.proofs.Common.{◌≡◌, ◌++◌, take, flat_map}
 use Rattle.set_answers.specs.SetTexts.{members_in, span_entry}
 use Rattle.set_answers.proofs.set_text.put_spans.Given as goal
 

@@ -1,6 +1,7 @@
 use Rattle.std.proofs.Common.{arith, rules, subst}
 use Rattle.std.specs.Io.KnownBytes.{Consumes}
-use Rattle.shelf_io.proofs.TransferLemmas.{Consumes-trans, take-filled}
+use Rattle.std.proofs.KnownBytes.{Consumes-trans}
+use Rattle.shelf_io.proofs.TransferLemmas.{take-filled}
 use Rattle.shelf_io.proofs.transfer.read_at.Goals as goal
 
 pub returns-in-Ok-clause-bytes : goal.returns-in-Ok-clause-bytes

@@ -1,6 +1,7 @@
 use Rattle.std.proofs.Common.{ℕ, ◌∙◌, arith, subst, length-take, length-drop}
 use Rattle.std.specs.Io.KnownBytes.{Appends}
-use Rattle.shelf_io.proofs.TransferLemmas.{Appends-trans, take-next}
+use Rattle.std.proofs.KnownBytes.{Appends-trans}
+use Rattle.shelf_io.proofs.TransferLemmas.{take-next}
 use Rattle.shelf_io.proofs.transfer.write_whole.Goals as goal
 
 pub rests-preserved : goal.rests-preserved

@@ -1,5 +1,4 @@
-use Rattle.std.proofs.Common.{◌≡◌, ℕ, ◌+◌, ◌<◌, ◌≤◌, drop}
-use Rattle.std.specs.List.{count_by}
+use Rattle.std.proofs.Common.{◌≡◌, ℕ, ◌+◌, ◌<◌, ◌≤◌, drop, count_by}
 use Rattle.ucd_points.specs.Fields.{field, is_semicolon}
 use Rattle.source_rows.specs.Fields.{fields_of}
 use Rattle.source_rows.proofs.fields.behind_fields.Given as goal

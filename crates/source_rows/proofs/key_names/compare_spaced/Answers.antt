@@ -1,6 +1,5 @@
-use Rattle.std.proofs.Common.{ℕ, List, sym, ap, ◌∙◌}
+use Rattle.std.proofs.Common.{ℕ, List, sym, ap, ◌∙◌, nat_cmp}
 use Rattle.std.specs.Cmp.Lexicographic.{slice_cmp}
-use Rattle.std.specs.Ordering.{nat_cmp}
 use Rattle.ucd_facts.specs.Mappings.{words}
 use Rattle.source_rows.proofs.Words.{no_word, one_word, at_end}
 use Rattle.source_rows.proofs.NameOrder.{led_by, led_joined, gap_stops, word_stops, word_goes, none_left, some_left}

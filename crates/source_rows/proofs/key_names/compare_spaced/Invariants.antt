@@ -1,6 +1,5 @@
-use Rattle.std.proofs.Common.{◌≡◌, length}
+use Rattle.std.proofs.Common.{◌≡◌, length, nat_cmp}
 use Rattle.std.specs.Cmp.Lexicographic.{slice_cmp}
-use Rattle.std.specs.Ordering.{nat_cmp}
 use Rattle.ucd_facts.specs.Mappings.{spaced_words, words}
 use Rattle.source_rows.proofs.NameOrder.{led_by}
 use Rattle.source_rows.proofs.key_names.compare_spaced.Given as goal

@@ -1,5 +1,4 @@
-use Rattle.std.proofs.Common.{◌∙◌, refl, sym, append_assoc}
-use Rattle.std.proofs.lemmas.List.{append-nil}
+use Rattle.std.proofs.Common.{◌∙◌, refl, sym, append_assoc, append-nil}
 use Rattle.std.proofs.lemmas.Result.{on_ok_weaker}
 use Rattle.source_rows.proofs.TextParts.{mapping_from, mapping_of_none}
 use Rattle.source_rows.proofs.put_points.put_mapping.Goals as goal

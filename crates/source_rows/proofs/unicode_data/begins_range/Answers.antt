@@ -1,7 +1,5 @@
-use Rattle.std.proofs.Common.{◌≡◌, ℕ, zero, suc, ◌-◌, Bool, true, false, ◌&&◌, eqb, List, [], ◌∷◌, take, drop, length, refl, sym, ap, ◌∙◌}
-use Rattle.std.specs.Prelude.{codes}
+use Rattle.std.proofs.Common.{◌≡◌, ℕ, zero, suc, ◌-◌, Bool, true, false, ◌&&◌, eqb, List, [], ◌∷◌, take, drop, length, refl, sym, ap, ◌∙◌, codes, bytes_eq}
 use Rattle.std.specs.List.{prefix_len, suffix_len, position_or_len, before_first, after_first}
-use Rattle.std.specs.Str.{bytes_eq}
 use Rattle.std.proofs.lemmas.Bool.{or_parts}
 use Rattle.ucd_points.specs.Lines.{is_blank}
 use Rattle.ucd_points.specs.Fields.{fields, field, trim, trim_start, is_label_closed_by, is_semicolon}

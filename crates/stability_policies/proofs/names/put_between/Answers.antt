@@ -1,5 +1,4 @@
-use Rattle.std.proofs.Common.{◌≤◌, List, sym, subst, arith}
-use Rattle.std.proofs.lemmas.List.{append-nil}
+use Rattle.std.proofs.Common.{◌≤◌, List, sym, subst, arith, append-nil}
 use Rattle.stability_policies.specs.NamedRows.{IsRest, end_at}
 use Rattle.stability_policies.specs.declared.breaks.Break.TheVariants.{At}
 use Rattle.stability_policies.specs.declared.named_row.NamedRow.{NamedRow}

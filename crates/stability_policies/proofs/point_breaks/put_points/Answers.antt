@@ -1,5 +1,4 @@
-use Rattle.std.proofs.Common.{◌++◌, map, ap, ◌∙◌, arith}
-use Rattle.std.proofs.lemmas.List.{take_all}
+use Rattle.std.proofs.Common.{◌++◌, map, ap, ◌∙◌, arith, take_all}
 use Rattle.stability_policies.specs.BrokenStretches.{points_of}
 use Rattle.stability_policies.specs.declared.breaks.Break.TheVariants.{At}
 use Rattle.stability_policies.proofs.StretchLemmas.{points_more}

@@ -1,5 +1,4 @@
-use Rattle.std.proofs.Common.{◌≡◌, take}
-use Rattle.std.specs.List.{flat_map}
+use Rattle.std.proofs.Common.{◌≡◌, take, flat_map}
 use Rattle.stability_policies.specs.Policies.{policies}
 use Rattle.stability_policies.specs.Reports.{breaks_of}
 use Rattle.stability_policies.proofs.reporting.report.Given as goal

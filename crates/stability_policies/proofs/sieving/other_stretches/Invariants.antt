@@ -1,5 +1,4 @@
-use Rattle.std.proofs.Common.{◌-◌, ◌≤◌}
-use Rattle.std.specs.Bool.{Decides}
+use Rattle.std.proofs.Common.{◌-◌, ◌≤◌, Decides}
 use Rattle.stability_policies.specs.BrokenStretches.{AreOthers, KeepAllForms}
 use Rattle.stability_policies.proofs.sieving.other_stretches.Given as goal
 

@@ -1,5 +1,4 @@
-use Rattle.std.proofs.Common.{◌≡◌, take}
-use Rattle.std.specs.List.{flat_map}
+use Rattle.std.proofs.Common.{◌≡◌, take, flat_map}
 use Rattle.stability_policies.specs.ReportTexts.{break_line}
 use Rattle.stability_policies.proofs.writing.report_text.Given as goal
 

@@ -1,5 +1,4 @@
-use Rattle.std.proofs.Common.{◌≡◌, ℕ, ◌+◌, ◌≤◌, fold, length}
-use Rattle.std.specs.List.{All}
+use Rattle.std.proofs.Common.{◌≡◌, ℕ, ◌+◌, ◌≤◌, fold, length, All}
 use Rattle.script_lines.specs.Groups.{IsWellFormed}
 use Rattle.ucdshop_core.specs.Carrying.{counted, session_on}
 use Rattle.ucdshop_core.specs.Counting.{SessionCounts}

@@ -1,5 +1,4 @@
-use Rattle.std.proofs.Common.{[], take}
-use Rattle.std.specs.List.{flat_map}
+use Rattle.std.proofs.Common.{[], take, flat_map}
 use Rattle.run_endings.specs.Planning.{Puts}
 use Rattle.ucdshop_core.specs.Carrying.{session_of}
 use Rattle.ucdshop_core.specs.JobWords.{job_of}

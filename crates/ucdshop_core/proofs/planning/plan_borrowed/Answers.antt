@@ -1,6 +1,4 @@
-use Rattle.std.proofs.Common.{subst}
-use Rattle.std.specs.Prelude.{IfOk}
-use Rattle.std.specs.Option.{option_map}
+use Rattle.std.proofs.Common.{subst, IfOk, option_map}
 use Rattle.ucdshop_core.specs.JobWords.{job_of}
 use Rattle.run_endings.specs.Planning.{HasPlan}
 use Rattle.run_endings.specs.Endings.{Ending}

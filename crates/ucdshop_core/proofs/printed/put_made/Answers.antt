@@ -1,5 +1,4 @@
-use Rattle.std.proofs.Common.{◌≡◌, ℕ, List, ◌++◌, codes, ap, ◌∙◌, append_assoc}
-use Rattle.std.specs.Fmt.{decimal}
+use Rattle.std.proofs.Common.{◌≡◌, ℕ, List, ◌++◌, codes, ap, ◌∙◌, append_assoc, decimal}
 use Rattle.ucdshop_core.specs.Printed.{made_release}
 use Rattle.ucdshop_core.proofs.printed.put_made.Goals as goal
 

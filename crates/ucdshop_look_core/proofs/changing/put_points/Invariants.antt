@@ -1,5 +1,4 @@
-use Rattle.std.proofs.Common.{◌≡◌, ◌++◌, take}
-use Rattle.std.specs.List.{flat_map}
+use Rattle.std.proofs.Common.{◌≡◌, ◌++◌, take, flat_map}
 use Rattle.edit_session.specs.Benches.{bench_record}
 use Rattle.record_lines.specs.Earlier.{earlier_record}
 use Rattle.ucdshop_look_core.specs.Changes.{what_differs}

@@ -1,5 +1,4 @@
-use Rattle.std.proofs.Common.{◌≡◌, ◌||◌, List, length, nat_lt, refl, sym, ap, subst, ◌∙◌}
-use Rattle.std.specs.Option.{option_map}
+use Rattle.std.proofs.Common.{◌≡◌, ◌||◌, List, length, nat_lt, refl, sym, ap, subst, ◌∙◌, option_map}
 use Rattle.run_endings.specs.Planning.{HaveLines}
 use Rattle.run_endings.specs.Writing.{files_of}
 use Rattle.stability_policies.specs.declared.breaks.Break.{Break}

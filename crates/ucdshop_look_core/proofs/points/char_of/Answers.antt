@@ -1,5 +1,4 @@
-use Rattle.std.proofs.Common.{ℕ, ◌==◌, Bool, true, length, None, ◌≡◌, ap, sym, ◌∙◌, if◌then◌else◌}
-use Rattle.std.proofs.lemmas.Bool.{eq-eqb}
+use Rattle.std.proofs.Common.{ℕ, ◌==◌, Bool, true, length, None, ◌≡◌, ap, sym, ◌∙◌, if◌then◌else◌, eq-eqb}
 use Rattle.bstr.specs.Utf8.{decoded}
 use Rattle.ucd_points.specs.Fields.{if_point}
 use Rattle.ucdshop_look_core.proofs.points.char_of.Goals as goal

@@ -1,5 +1,4 @@
-use Rattle.std.proofs.Common.{◌≡◌, ◌++◌, take}
-use Rattle.std.specs.List.{flat_map}
+use Rattle.std.proofs.Common.{◌≡◌, ◌++◌, take, flat_map}
 use Rattle.stability_policies.specs.Policies.{policies}
 use Rattle.ucdshop_look_core.specs.Checks.{broken_line}
 use Rattle.ucdshop_look_core.proofs.refusals.put_broken.Given as goal

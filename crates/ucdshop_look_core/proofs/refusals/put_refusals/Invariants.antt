@@ -1,5 +1,4 @@
-use Rattle.std.proofs.Common.{◌≡◌, ◌++◌}
-use Rattle.std.specs.List.{flat_map}
+use Rattle.std.proofs.Common.{◌≡◌, ◌++◌, flat_map}
 use Rattle.ucd_points.specs.Lines.{LineItem}
 use Rattle.ucdshop_look_core.specs.Checks.{refusal_line, refusals}
 use Rattle.ucdshop_look_core.proofs.refusals.put_refusals.Given as goal

@@ -1,5 +1,4 @@
-use Rattle.std.proofs.Common.{◌≡◌, ◌++◌}
-use Rattle.std.specs.List.{flat_map}
+use Rattle.std.proofs.Common.{◌≡◌, ◌++◌, flat_map}
 use Rattle.record_lines.specs.declared.point_text.PointText.{PointText}
 use Rattle.ucdshop_look_core.proofs.showing.joined.Given as goal
 

@@ -1,7 +1,5 @@
-use Rattle.std.proofs.Common.{◌≡◌, List, length, map, sym, ap, subst, ◌∙◌, refl}
-use Rattle.std.specs.List.{flat_map}
-use Rattle.release_rows.specs.FileItems.{FileItem}
-use Rattle.release_rows.specs.Releases.{ReleaseItems}
+use Rattle.std.proofs.Common.{◌≡◌, List, length, map, sym, ap, subst, ◌∙◌, refl, flat_map}
+use Rattle.release_rows.specs.Releases.{ReleaseItems, FileItem}
 use Rattle.record_lines.specs.PointTexts.{with_more}
 use Rattle.record_lines.specs.RowLines.{rows_text}
 use Rattle.record_lines.specs.declared.point_text.PointText.{PointText}

@@ -1,5 +1,4 @@
-use Rattle.std.proofs.Common.{◌≡◌, take}
-use Rattle.std.specs.List.{flat_map}
+use Rattle.std.proofs.Common.{◌≡◌, take, flat_map}
 use Rattle.ucdshop_more_core.specs.MissTexts.{miss_line}
 use Rattle.ucdshop_more_core.proofs.miss_text.misses_text.Given as goal
 

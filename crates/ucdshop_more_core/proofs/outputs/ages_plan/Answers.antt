@@ -1,5 +1,4 @@
-use Rattle.std.proofs.Common.{◌++◌, List, ap, subst, sym, refl, ◌∙◌}
-use Rattle.std.specs.Prelude.{nat_lt}
+use Rattle.std.proofs.Common.{◌++◌, List, ap, subst, sym, refl, ◌∙◌, nat_lt}
 use Rattle.run_endings.specs.Planning.{HaveLines}
 use Rattle.run_endings.specs.PutProofs.{puts_then}
 use Rattle.run_endings.specs.Writing.{files_of}

@@ -1,5 +1,4 @@
-use Rattle.std.proofs.Common.{◌≡◌, ℕ, List, ◌++◌, codes, ap, sym, ◌∙◌, append_assoc}
-use Rattle.std.specs.Fmt.{decimal}
+use Rattle.std.proofs.Common.{◌≡◌, ℕ, List, ◌++◌, codes, ap, sym, ◌∙◌, append_assoc, decimal}
 use Rattle.ucd_model.specs.DerivedText.{line_end}
 use Rattle.ucdshop_more_core.proofs.printed.undo_summary.Goals as goal
 

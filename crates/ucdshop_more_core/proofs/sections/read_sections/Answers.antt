@@ -1,5 +1,4 @@
-use Rattle.std.proofs.Common.{◌+◌, List, length, sym, ap, subst, ◌∙◌}
-use Rattle.std.specs.List.{All}
+use Rattle.std.proofs.Common.{◌+◌, List, length, sym, ap, subst, ◌∙◌, All}
 use Rattle.std.proofs.lemmas.List.Elements.{All-tail}
 use Rattle.script_pieces.specs.Pieces.{FitsBelow, Piece}
 use Rattle.script_pieces.specs.Views.{piece_of}

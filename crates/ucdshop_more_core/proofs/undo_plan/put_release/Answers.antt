@@ -1,7 +1,6 @@
 use Rattle.std.proofs.Common.{List, ap, subst}
 use Rattle.std.proofs.lemmas.Result.{on_ok_weaker}
-use Rattle.release_rows.specs.FileItems.{FileItem}
-use Rattle.release_rows.specs.Releases.{ReleaseItems}
+use Rattle.release_rows.specs.Releases.{ReleaseItems, FileItem}
 use Rattle.run_endings.specs.Planning.{Puts}
 use Rattle.run_endings.specs.PutProofs.{puts_then}
 use Rattle.ucdshop_more_core.specs.Run.{release_files}

@@ -1,5 +1,4 @@
-use Rattle.std.proofs.Common.{◌≡◌, map, take}
-use Rattle.std.specs.List.{fold}
+use Rattle.std.proofs.Common.{◌≡◌, map, take, fold}
 use Rattle.ucdshop_more_core.specs.Moves.{group_move}
 use Rattle.ucdshop_more_core.specs.Undoing.{after_move, course_of}
 use Rattle.ucdshop_more_core.proofs.undo_session.carry_groups.Given as goal

@@ -1,5 +1,4 @@
-use Rattle.std.proofs.Common.{◌≡◌, [], take}
-use Rattle.std.specs.List.{fold}
+use Rattle.std.proofs.Common.{◌≡◌, [], take, fold}
 use Rattle.ucdshop_more_core.specs.Moves.{all_moves}
 use Rattle.ucdshop_more_core.specs.Undoing.{after_move, course_of}
 use Rattle.ucdshop_more_core.proofs.undo_session.make_moves.Given as goal

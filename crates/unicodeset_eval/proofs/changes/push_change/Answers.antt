@@ -1,6 +1,4 @@
-use Rattle.std.proofs.Common.{◌≡◌, ◌+◌, length, sym, ap, ◌∙◌, arith}
-use Rattle.std.specs.Prelude.{count_ones}
-use Rattle.std.proofs.lemmas.List.{length-append}
+use Rattle.std.proofs.Common.{◌≡◌, ◌+◌, length, sym, ap, ◌∙◌, arith, count_ones, length-append}
 use Rattle.unicodeset_eval.proofs.BinaryDigits.{even_ones, odd_ones}
 use Rattle.unicodeset_eval.proofs.changes.push_change.Goals as goal
 

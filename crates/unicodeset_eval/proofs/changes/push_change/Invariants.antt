@@ -1,5 +1,4 @@
-use Rattle.std.proofs.Common.{◌≡◌, ◌+◌, ℕ, Bool, length}
-use Rattle.std.specs.Prelude.{count_ones}
+use Rattle.std.proofs.Common.{◌≡◌, ◌+◌, ℕ, Bool, length, count_ones}
 use Rattle.unicodeset_eval.specs.Changes.{all_changed}
 use Rattle.unicodeset_eval.proofs.changes.push_change.Given as goal
 

@@ -1,5 +1,4 @@
-use Rattle.std.proofs.Common.{rules, ◌≡◌, ◌+◌, List, map, refl, sym, ap, ◌∙◌}
-use Rattle.std.specs.List.{flat_map}
+use Rattle.std.proofs.Common.{rules, ◌≡◌, ◌+◌, List, map, refl, sym, ap, ◌∙◌, flat_map}
 use Rattle.std.proofs.lemmas.List.Folds.{flat_map-map}
 use Rattle.unicodeset_eval.specs.Answers.{names_in}
 use Rattle.unicodeset_eval.specs.Changes.{gathered}

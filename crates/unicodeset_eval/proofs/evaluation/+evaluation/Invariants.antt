@@ -1,5 +1,4 @@
-use Rattle.std.proofs.Common.{◌≡◌, drop}
-use Rattle.std.specs.List.{flat_map}
+use Rattle.std.proofs.Common.{◌≡◌, drop, flat_map}
 use Rattle.unicodeset_eval.specs.Answers.{names_in}
 use Rattle.unicodeset_eval.specs.Changes.{gathered}
 use Rattle.unicodeset_eval.specs.Members.{nothing}

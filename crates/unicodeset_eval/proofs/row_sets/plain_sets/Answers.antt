@@ -1,5 +1,4 @@
-use Rattle.std.proofs.Common.{◌&&◌, ◌||◌, ℕ, List, sym, ap, subst, ◌∙◌, arith}
-use Rattle.std.specs.Prelude.{nat_eq}
+use Rattle.std.proofs.Common.{◌&&◌, ◌||◌, ℕ, List, sym, ap, subst, ◌∙◌, arith, nat_eq}
 use Rattle.property_aliases.specs.Numbers.{AreNumbered, names_in}
 use Rattle.property_aliases.specs.Sources.{numbered, value_rows}
 use Rattle.property_aliases.specs.declared.file_values.NumberedRow.{NumberedRow}

@@ -1,5 +1,4 @@
-use Rattle.std.proofs.Common.{◌<◌, List, ◌∷◌, [], ◌++◌, length, take, sym, ap, subst, ◌∙◌, arith}
-use Rattle.std.proofs.lemmas.List.{take_all}
+use Rattle.std.proofs.Common.{◌<◌, List, ◌∷◌, [], ◌++◌, length, take, sym, ap, subst, ◌∙◌, arith, take_all}
 use Rattle.bench_editors.specs.Desks.{DeskState, EventsCount, after_events, replies}
 use Rattle.bench_editors.specs.Standing.{StandsFor, StopsWithin}
 use Rattle.bench_editors.specs.declared.event.Event.{Event}

@@ -1,5 +1,4 @@
-use Rattle.std.proofs.Common.{Option, ℕ, ap, ◌∙◌}
-use Rattle.std.specs.Option.{unwrap_or}
+use Rattle.std.proofs.Common.{Option, ℕ, ap, ◌∙◌, unwrap_or}
 use Rattle.bench_editors.proofs.KeyLemmas.{found_by}
 use Rattle.bench_editors.proofs.row_revisions.RowRevisions.last.Goals as goal
 

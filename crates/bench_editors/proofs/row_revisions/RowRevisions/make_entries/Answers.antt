@@ -1,7 +1,5 @@
-use Rattle.std.proofs.Common.{◌<◌, length, IsSome, subst, ◌∙◌, arith}
-use Rattle.std.proofs.lemmas.List.{take_all}
+use Rattle.std.proofs.Common.{◌<◌, length, IsSome, subst, ◌∙◌, arith, take_all, All}
 use Rattle.std.proofs.lemmas.List.Elements.{All-more}
-use Rattle.std.specs.List.{All}
 use Rattle.release_rows.specs.declared.operation.Op.{Op}
 use Rattle.bench_editors.specs.Rows.{row_of}
 use Rattle.bench_editors.specs.RowKeys.{KeyParts, found_in, row_parts}

@@ -1,5 +1,4 @@
-use Rattle.std.proofs.Common.{◌≡◌, IsSome, take}
-use Rattle.std.specs.List.{All}
+use Rattle.std.proofs.Common.{◌≡◌, IsSome, take, All}
 use Rattle.bench_editors.specs.RowKeys.{KeyParts, found_in, last_in, row_parts}
 use Rattle.bench_editors.specs.Rows.{row_of}
 use Rattle.bench_editors.proofs.row_revisions.RowRevisions.make_entries.Given as goal

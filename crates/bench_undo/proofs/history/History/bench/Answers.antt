@@ -1,6 +1,5 @@
 use Rattle.std.proofs.Common.{◌≡◌, List, ap, ◌∙◌}
-use Rattle.release_rows.specs.FileItems.{FileItem}
-use Rattle.release_rows.specs.Releases.{ReleaseItems}
+use Rattle.release_rows.specs.Releases.{ReleaseItems, FileItem}
 use Rattle.bench_undo.specs.Histories.{HistoryState}
 use Rattle.bench_undo.proofs.history.History.bench.Goals as goal
 

@@ -1,5 +1,4 @@
-use Rattle.std.proofs.Common.{◌≡◌, ◌∙◌, ℕ, List, take, ap}
-use Rattle.std.proofs.lemmas.List.{take_all}
+use Rattle.std.proofs.Common.{◌≡◌, ◌∙◌, ℕ, List, take, ap, take_all}
 use Rattle.number_sets.specs.Keys.{has}
 use Rattle.ucd_facts.specs.declared.query.Query.{Query}
 use Rattle.dependency_map.specs.Askers.{asks_any}

@@ -1,7 +1,6 @@
-use Rattle.std.proofs.Common.{◌≡◌, ◌<◌, ℕ, List, length, get_or, sym, ap, ◌∙◌, arith, inl, inr, refl}
+use Rattle.std.proofs.Common.{◌≡◌, ◌<◌, ℕ, List, length, get_or, sym, ap, ◌∙◌, arith, inl, inr, refl, Bor}
 use Rattle.std.proofs.lemmas.Bool.{cases_lt}
 use Rattle.std.proofs.lemmas.List.{get_or_default}
-use Rattle.std.specs.Borrow.{Bor}
 use Rattle.ucd_model.specs.declared.records.Record.{Record as Kept}
 use Rattle.derived_writer.specs.Listings.{shown_label}
 use Rattle.derived_writer.specs.declared.listing.Listing.{Listing}

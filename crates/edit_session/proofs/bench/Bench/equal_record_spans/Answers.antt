@@ -1,5 +1,4 @@
-use Rattle.std.proofs.Common.{subst, sym}
-use Rattle.std.specs.List.{All}
+use Rattle.std.proofs.Common.{subst, sym, All}
 use Rattle.record_table.specs.Records.{record_now}
 use Rattle.ucd_model.specs.Cuts.{IsCut}
 use Rattle.ucd_points.specs.Limits.{point_count}

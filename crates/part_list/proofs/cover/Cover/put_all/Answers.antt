@@ -1,5 +1,4 @@
-use Rattle.std.proofs.Common.{arith}
-use Rattle.std.proofs.lemmas.List.{take_all}
+use Rattle.std.proofs.Common.{arith, take_all}
 use Rattle.part_list.proofs.cover.Cover.put_all.Goals as goal
 
 pub returns-clause-put : goal.returns-clause-put

@@ -1,5 +1,4 @@
-use Rattle.std.proofs.Common.{take}
-use Rattle.std.specs.List.{All}
+use Rattle.std.proofs.Common.{take, All}
 use Rattle.part_list.specs.Covers.{CoversMore, IsCovered}
 use Rattle.part_list.proofs.cover.Cover.put_all.Given as goal
 

@@ -1,5 +1,4 @@
-use Rattle.std.proofs.Common.{◌≡◌, map, sym, ap, subst, ◌∙◌}
-use Rattle.std.specs.List.{All}
+use Rattle.std.proofs.Common.{◌≡◌, map, sym, ap, subst, ◌∙◌, All}
 use Rattle.part_list.specs.Parts.{flat, now_in}
 use Rattle.part_list.specs.PartValues.{committed, parts_now, parts_next}
 use Rattle.part_list.specs.Hints.{IsHinted}

@@ -1,5 +1,4 @@
-use Rattle.std.proofs.Common.{sym, subst}
-use Rattle.std.specs.List.{All}
+use Rattle.std.proofs.Common.{sym, subst, All}
 use Rattle.part_list.specs.Guides.{Covers}
 use Rattle.part_list.specs.Parts.{flat}
 use Rattle.part_list.specs.PartValues.{parts_now, parts_next}

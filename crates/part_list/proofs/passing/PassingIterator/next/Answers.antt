@@ -1,5 +1,4 @@
-use Rattle.std.proofs.Common.{◌∙◌, rules, length, drop, ap, sym, arith}
-use Rattle.std.specs.List.{filter}
+use Rattle.std.proofs.Common.{◌∙◌, rules, length, drop, ap, sym, arith, filter}
 use Rattle.part_list.specs.Parts.{flat}
 use Rattle.part_list.specs.PartValues.{PartValue, parts_next}
 use Rattle.part_list.proofs.GuideLemmas.{none_left, part_begun}

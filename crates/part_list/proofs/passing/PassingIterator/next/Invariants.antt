@@ -1,5 +1,4 @@
-use Rattle.std.proofs.Common.{◌≡◌, ◌++◌, ◌-◌, length, drop}
-use Rattle.std.specs.List.{filter}
+use Rattle.std.proofs.Common.{◌≡◌, ◌++◌, ◌-◌, length, drop, filter}
 use Rattle.part_list.specs.Guides.{Covers}
 use Rattle.part_list.specs.Parts.{flat}
 use Rattle.part_list.specs.PartValues.{parts_next}

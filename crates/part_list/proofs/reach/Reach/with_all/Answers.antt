@@ -1,5 +1,4 @@
-use Rattle.std.proofs.Common.{arith}
-use Rattle.std.proofs.lemmas.List.{take_all}
+use Rattle.std.proofs.Common.{arith, take_all}
 use Rattle.std.proofs.lemmas.List.Elements.{All-more}
 use Rattle.part_list.specs.Reaches.{IsWithin}
 use Rattle.part_list.proofs.ReachLemmas.{all_wider, wider_on}

@@ -1,5 +1,4 @@
-use Rattle.std.proofs.Common.{take}
-use Rattle.std.specs.List.{All}
+use Rattle.std.proofs.Common.{take, All}
 use Rattle.part_list.specs.Reaches.{IsWithin, IsWider}
 use Rattle.part_list.proofs.reach.Reach.with_all.Given as goal
 

@@ -1,5 +1,5 @@
-use Rattle.std.proofs.Common.{◌≡◌, ℕ, Bool, true, false, not, List, ◌++◌, refl, sym, ap, subst, ◌∙◌}
-use Rattle.std.specs.Option.{option_map}
+use Rattle.std.proofs.Common.{◌≡◌, ℕ, true, false, List, ◌++◌, sym, ap, subst, ◌∙◌, option_map}
+use Rattle.std.proofs.lemmas.Bool.{not-true}
 use Rattle.property_aliases.specs.Edits.{HasSameNames, told_by}
 use Rattle.property_aliases.specs.Found.{AreAliasesOf, index_in}
 use Rattle.property_aliases.specs.Properties.{index_at, index_named}
@@ -10,10 +10,6 @@ use Rattle.property_aliases.proofs.PlacedNames.{placed}
 use Rattle.property_aliases.specs.Sources.{Sources, alias_rows, sources_of}
 use Rattle.property_aliases.proofs.aliases.Aliases.renew.Goals as goal
 
-not_so : (b : Bool) → not b ≡ true → b ≡ false
-not_so true e = absurd cc
-not_so false e = refl
-
 -- the rows of alias files are the same, and the names that are numbered
 pub returns-then-not-edited-clause-aliases : goal.returns-then-not-edited-clause-aliases
 returns-then-not-edited-clause-aliases c =
@@ -22,7 +18,7 @@ returns-then-not-edited-clause-aliases c =
     let before = c.requires.numbers in
     let now = c.in_ok-same.ensures.numbers c.requires.old c.requires.numbers c.requires.same in
     let names : HasSameNames c.renew.new.self c.args.self.now.numbers = c.in_ok-same.ensures.same (c.if-same.true) in
-    let off : c.args.edited.aliases ≡ false = not_so c.args.edited.aliases c.if-not-edited.true in
+    let off : c.args.edited.aliases ≡ false = not-true c.args.edited.aliases c.if-not-edited.true in
     let properties : old.properties ≡ next.properties = ap alias_rows (c.requires.same.properties off) in
     let values : old.values ≡ next.values = ap alias_rows (c.requires.same.values off) in
     let listed : old.listed ≡ next.listed = sym before.listed.names_are ∙ sym names.listed ∙ now.listed.names_are in

@@ -1,5 +1,4 @@
-use Rattle.std.proofs.Common.{◌≡◌, ℕ, List, ◌++◌, ap, ◌∙◌}
-use Rattle.std.specs.Option.{option_map}
+use Rattle.std.proofs.Common.{◌≡◌, ℕ, List, ◌++◌, ap, ◌∙◌, option_map}
 use Rattle.property_aliases.specs.Found.{index_in}
 use Rattle.property_aliases.specs.Properties.{index_at, index_named}
 use Rattle.property_aliases.specs.Resolving.{number_of}

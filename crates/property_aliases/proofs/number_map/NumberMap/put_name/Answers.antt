@@ -1,5 +1,4 @@
-use Rattle.std.proofs.Common.{ap, ◌∙◌}
-use Rattle.std.specs.Str.{bytes_eq}
+use Rattle.std.proofs.Common.{ap, ◌∙◌, bytes_eq}
 use Rattle.std.specs.Map.{lookup}
 use Rattle.property_aliases.specs.Loose.{loose}
 use Rattle.property_aliases.specs.LooseNames.{name_bytes}

@@ -1,5 +1,4 @@
-use Rattle.std.proofs.Common.{◌≡◌, ◌<◌, ℕ, List, map, ap, ◌∙◌}
-use Rattle.std.specs.List.{flat_map}
+use Rattle.std.proofs.Common.{◌≡◌, ◌<◌, ℕ, List, map, ap, ◌∙◌, flat_map}
 use Rattle.property_aliases.specs.Found.{place_in}
 use Rattle.property_aliases.specs.Kinds.{kind_names, kind_of, number_at}
 use Rattle.property_aliases.specs.NumberMaps.{index_in_names}

@@ -1,11 +1,9 @@
-use Rattle.std.proofs.Common.{arith, ◌≡◌, ◌-◌, length, rules, ltb}
+use Rattle.std.proofs.Common.{arith, ◌≡◌, ◌-◌, length, rules, ltb, ltb-true}
 use Rattle.std.proofs.lemmas.List.Sorted.{IsPartitionPoint-from_clause, IsPartitionedBy-ltb}
-use Rattle.std.proofs.lemmas.Bool.{ltb-true}
 use Rattle.std.proofs.lemmas.Bool.Decides.{nat_tests}
 use Rattle.range_table.proofs.Lookups.{count_before-le, count_before-unique, starts_ascend, count_before-between}
 use Rattle.range_table.proofs.layout.Layout.count_before.Goals as goal
-use Rattle.range_table.proofs.layout.Layout.count_before.Goals.{then-len-eq0-via-then-len-eq0, then-len-eq0-via-else-len-eq0+then-changes-len}
-use Rattle.range_table.proofs.layout.Layout.count_before.Goals.{then-len-eq1-via-then-len-eq1, then-len-eq1-via-else-len-eq1+then-changes-len-2}
+use Rattle.range_table.proofs.layout.Layout.count_before.Goals.{then-len-eq0-via-then-len-eq0, then-len-eq0-via-else-len-eq0+then-changes-len, then-len-eq1-via-then-len-eq1, then-len-eq1-via-else-len-eq1+then-changes-len-2}
 
 pub returns-then-len-eq0 : goal.returns-then-len-eq0
 returns-then-len-eq0 g c =

@@ -1,5 +1,4 @@
-use Rattle.std.proofs.Common.{◌≡◌, ◌+◌, ℕ, Option, Some, None, refl, arith}
-use Rattle.std.specs.Option.{IsSome, SomeIff}
+use Rattle.std.proofs.Common.{◌≡◌, ◌+◌, ℕ, Option, Some, None, refl, arith, IsSome, SomeIff}
 use Rattle.range_table.proofs.layout.Layout.last_of_run.Goals as goal
 
 some_of : (o : Option ℕ) (P : Type 0) (n : ℕ) → SomeIff o P n → P → IsSome o

@@ -1,5 +1,4 @@
-use Rattle.std.proofs.Common.{◌≡◌, suc, ◌+◌, ◌∷◌, length, map, sym, ap, ◌∙◌, arith}
-use Rattle.std.specs.Prelude.{slice_get}
+use Rattle.std.proofs.Common.{◌≡◌, suc, ◌+◌, ◌∷◌, length, map, sym, ap, ◌∙◌, arith, slice_get}
 use Rattle.ucd_points.specs.Lines.{LineItem, contents}
 use Rattle.ucd_lines.specs.Items.{item_of}
 use Rattle.record_lines.specs.Finding.{Found}

@@ -1,5 +1,4 @@
-use Rattle.std.proofs.Common.{◌≡◌, ◌∙◌, [], ◌∷◌, length, get_or, subst, ap, arith}
-use Rattle.std.proofs.lemmas.List.{length-append}
+use Rattle.std.proofs.Common.{◌≡◌, ◌∙◌, [], ◌∷◌, length, get_or, subst, ap, arith, length-append}
 use Rattle.range_table.specs.Values.{SameValues, with_span}
 use Rattle.ucd_points.specs.Bounds.{Bounds}
 use Rattle.ucd_model.specs.Records.{kept_record}

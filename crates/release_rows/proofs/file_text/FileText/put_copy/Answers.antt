@@ -1,12 +1,12 @@
-use Rattle.std.proofs.Common.{◌≡◌, ℕ, List, map, length, sym, ap, subst, ◌∙◌, arith}
+use Rattle.std.proofs.Common.{◌≡◌, ℕ, List, map, length, sym, ap, subst, ◌∙◌, arith, insert}
 use Rattle.std.proofs.lemmas.List.{length-map}
-use Rattle.std.specs.List.{insert}
+use Rattle.ucd_points.specs.PlainProofs.{map_insert}
 use Rattle.part_list.specs.Parts.{now_in, next_in}
 use Rattle.release_rows.specs.FileItems.{FileItem, FileLists}
 use Rattle.release_rows.specs.Noted.{AreNoted, ItemNoted, KeepNotes}
 use Rattle.release_rows.specs.StoredItems.{IsStored, stored_at}
 use Rattle.release_rows.proofs.Arena.{items_kept}
-use Rattle.release_rows.proofs.Backward.{kept_inserted, map_insert}
+use Rattle.release_rows.proofs.Backward.{kept_inserted}
 use Rattle.release_rows.proofs.Edited.{kept_grown}
 use Rattle.release_rows.proofs.Noting.{noted_insert, noted_more, noted_stored, notes_edited, notes_grown}
 use Rattle.release_rows.proofs.file_text.FileText.put_copy.Goals as goal

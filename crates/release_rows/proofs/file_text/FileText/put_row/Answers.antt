@@ -1,6 +1,5 @@
-use Rattle.std.proofs.Common.{rules, ◌≡◌, ℕ, Ok, Err, List, map, refl, sym, ap, subst, ◌∙◌, arith}
+use Rattle.std.proofs.Common.{rules, ◌≡◌, ℕ, Ok, Err, List, map, refl, sym, ap, subst, ◌∙◌, arith, All}
 use Rattle.std.proofs.lemmas.List.{length-map}
-use Rattle.std.specs.List.{All}
 use Rattle.part_list.specs.Parts.{now_in, next_in}
 use Rattle.source_rows.specs.Faults.{row_or_fault}
 use Rattle.release_rows.specs.FileItems.{FileItem, FileLists}

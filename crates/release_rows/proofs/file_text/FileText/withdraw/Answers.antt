@@ -1,5 +1,4 @@
-use Rattle.std.proofs.Common.{rules, ◌≡◌, Ok, Err, map, refl, sym, ap, subst, ◌∙◌}
-use Rattle.std.specs.List.{remove}
+use Rattle.std.proofs.Common.{rules, ◌≡◌, Ok, Err, map, refl, sym, ap, subst, ◌∙◌, remove}
 use Rattle.std.proofs.lemmas.List.Elements.{All-get_or}
 use Rattle.part_list.specs.Parts.{next_in, place}
 use Rattle.part_list.specs.SpotLaws.{place-lt}

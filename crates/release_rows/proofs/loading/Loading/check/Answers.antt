@@ -1,10 +1,10 @@
 use Rattle.std.proofs.Common.{ℕ, ◌+◌, Some, sym, ap, ◌∙◌}
+use Rattle.release_rows.specs.ValuesApartProofs.{rows_append}
 use Rattle.release_rows.specs.FileItems.{lines_of, rows_in}
 use Rattle.release_rows.specs.Loaders.{items_above}
 use Rattle.release_rows.specs.Loading.{at_line, file_item}
 use Rattle.release_rows.specs.Progress.{Progress}
 use Rattle.release_rows.specs.StoredItems.{piece_of}
-use Rattle.release_rows.proofs.Growing.{rows_with}
 use Rattle.release_rows.proofs.Standing.{fault_is}
 use Rattle.release_rows.proofs.loading.Loading.check.Goals as goal
 
@@ -14,7 +14,7 @@ returns-in-None-clause-keys c =
     let items = items_above l in
     let item = file_item l.file (piece_of c.args.piece) in
     let took = c.in_ok-take_row.ensures (rows_in items) item.row c.requires.keys c.requires.sound.before c.in_ok-entry.ensures.piece.1 in
-    rw (ap (λ (all : Progress). all.items) c.in_ok-entry.ensures.progress, rows_with items item) (took.1 c.in-None.is)
+    rw (ap (λ (all : Progress). all.items) c.in_ok-entry.ensures.progress, rows_append items item) (took.1 c.in-None.is)
 
 pub returns-in-None-clause-piece : goal.returns-in-None-clause-piece
 returns-in-None-clause-piece c =

@@ -1,6 +1,5 @@
 use Rattle.std.proofs.Common.{◌≡◌, List, sym, ap, subst, ◌∙◌}
-use Rattle.release_rows.specs.FileItems.{FileItem}
-use Rattle.release_rows.specs.Releases.{AllAreKept, ReleaseItems, files_next, files_now}
+use Rattle.release_rows.specs.Releases.{AllAreKept, ReleaseItems, files_next, files_now, FileItem}
 use Rattle.release_rows.proofs.FilesEdited.{files_discarded, next_discarded, now_discarded}
 use Rattle.release_rows.proofs.LeadingFiles.{answers_none}
 use Rattle.release_rows.proofs.release.Release.prepare_back.Goals as goal

@@ -1,5 +1,4 @@
-use Rattle.std.proofs.Common.{rules, length, sym, ap, ◌∙◌}
-use Rattle.std.specs.Option.{option_map}
+use Rattle.std.proofs.Common.{rules, length, sym, ap, ◌∙◌, option_map}
 use Rattle.script_pieces.specs.Views.{left, mark_of}
 use Rattle.script_pieces.proofs.pieces.PiecesIterator.next.Goals as goal
 

@@ -1,5 +1,4 @@
-use Rattle.std.proofs.Common.{◌≡◌, ℕ, true, false, List, Some, None, sym, subst, ◌∙◌}
-use Rattle.std.specs.Str.{bytes_eq}
+use Rattle.std.proofs.Common.{◌≡◌, ℕ, true, false, List, Some, None, sym, subst, ◌∙◌, bytes_eq}
 use Rattle.stability_policies.specs.NamePlaces.{IsNext, has_name}
 use Rattle.stability_policies.proofs.PlaceLemmas.{Entry, Searched, searched, next_same, next_other, next_past}
 use Rattle.stability_policies.proofs.name_places.NamePlaces.next.Goals as goal

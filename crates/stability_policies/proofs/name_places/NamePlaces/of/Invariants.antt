@@ -1,5 +1,4 @@
-use Rattle.std.proofs.Common.{◌≡◌, ℕ, List, nat_lt}
-use Rattle.std.specs.Prelude.{◌&&◌}
+use Rattle.std.proofs.Common.{◌≡◌, ℕ, List, nat_lt, ◌&&◌}
 use Rattle.std.specs.List.{list_any}
 use Rattle.stability_policies.specs.NamePlaces.{has_name, is_at}
 use Rattle.stability_policies.proofs.name_places.NamePlaces.of.Given as goal

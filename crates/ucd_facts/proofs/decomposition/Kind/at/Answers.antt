@@ -1,5 +1,4 @@
-use Rattle.std.proofs.Common.{◌≤◌, ◌∙◌, sym, ap, arith}
-use Rattle.std.specs.Option.{option_map}
+use Rattle.std.proofs.Common.{◌≤◌, ◌∙◌, sym, ap, arith, option_map}
 use Rattle.ucd_facts.specs.EnumerationProofs.{kinds_behind}
 use Rattle.ucd_facts.specs.declared.decomposition.Kind.TheVariants.{Compat}
 use Rattle.ucd_facts.proofs.decomposition.Kind.at.Goals as goal

@@ -1,5 +1,4 @@
-use Rattle.std.proofs.Common.{rules, ◌≡◌, List, map, sym, ◌∙◌}
-use Rattle.std.specs.List.{flat_map}
+use Rattle.std.proofs.Common.{rules, ◌≡◌, List, map, sym, ◌∙◌, flat_map}
 use Rattle.std.proofs.lemmas.List.Folds.{flat_map-map}
 use Rattle.unicodeset_parser.specs.Trees.{Step}
 use Rattle.unicodeset_parser.specs.Views.{part_view, parts_view}

@@ -6,10 +6,11 @@
 --   files_of at       the bytes of the file at each path, where a file is there
 --   SameEntries old new      what is at every path is what was there
 --   TakesNone answer buf P   P, where a write answered an error, or took none of some bytes
+--   TakesSome answer buf P   P, where a write took some of the bytes, or there were none
 --   folder_of path    what stands in front of the last slash of a path, None where it has no slash
 --   DiskView S        a DiskShelf as its callers see it: its system, and its counts of faults
 --   OutView W         an OutSink as its callers see it: its writer, and its count of faults
-use Rattle.std.specs.Prelude.{ℕ, ◌≡◌, ◌<◌, List, ⊤, Option, None, Some, Result, MatchResult, length, option_map}
+use Rattle.std.specs.Prelude.{ℕ, ◌≡◌, ◌<◌, List, ⊤, Option, None, Some, Result, IfOk, MatchResult, length, option_map}
 use Rattle.std.specs.Path.{slash, rsplit_once}
 
 pub data Entry : Type 0 where
@@ -44,6 +45,9 @@ SameEntries old new = (q : List ℕ) → new q ≡ old q
 
 abbrev pub TakesNone : {E : Type 0} → Result ℕ E → List ℕ → Type 0 → Type 0
 TakesNone answer buf P = MatchResult answer (λ n. n ≡ 0 → 0 < length buf → P) (λ _. P)
+
+abbrev pub TakesSome : {E : Type 0} → Result ℕ E → List ℕ → Type 0 → Type 0
+TakesSome answer buf P = IfOk answer (λ n. (n ≡ 0 → length buf ≡ 0) → P)
 
 abbrev pub folder_of : List ℕ → Option (List ℕ)
 folder_of path = option_map (λ split. split.0) (rsplit_once slash path)

@@ -7,14 +7,14 @@ ghost use Rattle.std.specs.Io.KnownBytes.{ReadConsumes, WriteAppends};
 ghost use Rattle.shelf_io.specs.Counts.{Rose};
 ghost use Rattle.shelf_io.specs.Contents.{SameContents, OnlyPath};
 ghost use Rattle.shelf_io.specs.Beside.{beside as beside_name};
-ghost use Rattle.shelf_io.specs.Systems.{Entry, IsKept, SameEntries, TakesNone, file_of, files_of, folder_of};
+ghost use Rattle.shelf_io.specs.Systems.{Entry, IsKept, SameEntries, TakesNone, TakesSome, file_of, files_of, folder_of};
 ghost use Rattle.shelf_io.specs.Systems.Entry.{Nothing, Folder, File, Kept, Created};
 
 use std::io;
 use std::io::{ErrorKind, Read, Write};
 
 /// The calls on files and folders that a `DiskShelf` makes. Paths are texts; a slash ends a folder's name. Each call that
-/// fails is counted.
+/// fails is counted, and no other.
 pub trait System {
     /// A file that was opened. It is read from its beginning.
     type Opened: Read + Drop;
@@ -47,6 +47,7 @@ pub trait System {
             error_kind e ≡ ErrorKind.NotFound → at self.old path.now ≡ Nothing) }
         ensures stays { IsTrue tells → SameEntries (at self.old) (at self.new) }
         ensures failed_only { OnErr result (Rose (faults self.old) (faults self.new)) }
+        ensures uncounted { OnOk result (faults self.new ≡ faults self.old) }
         ensures faults_never_fall { faults self.old ≤ faults self.new };
 
     /// Reads the next bytes of a file that was opened, and answers how many: none at its end, or if none are asked for.
@@ -56,6 +57,7 @@ pub trait System {
             (Self.Opened.remaining file.new) result buf.new }
         ensures stays { IsTrue tells → SameEntries (at self.old) (at self.new) }
         ensures failed_only { OnErr result (Rose (faults self.old) (faults self.new)) }
+        ensures uncounted { OnOk result (faults self.new ≡ faults self.old) }
         ensures faults_never_fall { faults self.old ≤ faults self.new };
 
     /// Makes a folder and the folders above it, if they are missing. No file changes.
@@ -68,6 +70,7 @@ pub trait System {
         ensures replaces_stay { IsTrue tells → (q : List ℕ)
             → replaces self.new q ≡ replaces self.old q }
         ensures failed_only { OnErr result (Rose (faults self.old) (faults self.new)) }
+        ensures uncounted { OnOk result (faults self.new ≡ faults self.old) }
         ensures faults_never_fall { faults self.old ≤ faults self.new };
 
     /// Creates an empty file, in place of the one that was there, in a folder that is there. Every other file stays.
@@ -81,6 +84,7 @@ pub trait System {
         ensures others { IsTrue tells
             → OnlyPath path.now (files_of (at self.old)) (files_of (at self.new)) }
         ensures failed_only { OnErr result (Rose (faults self.old) (faults self.new)) }
+        ensures uncounted { OnOk result (faults self.new ≡ faults self.old) }
         ensures faults_never_fall { faults self.old ≤ faults self.new };
 
     /// Creates an empty file at the name beside a path, which is to take the place of the file at the path; or answers
@@ -103,6 +107,7 @@ pub trait System {
         ensures others { IsTrue tells
             → OnlyPath beside.now (files_of (at self.old)) (files_of (at self.new)) }
         ensures failed_only { OnErr result (Rose (faults self.old) (faults self.new)) }
+        ensures uncounted { OnOk result (faults self.new ≡ faults self.old) }
         ensures faults_never_fall { faults self.old ≤ faults self.new };
 
     /// Writes the next bytes of a file that was created, and answers how many were taken. It is a fault to take none of
@@ -113,6 +118,7 @@ pub trait System {
             (Self.Created.contents file.new) result buf.now }
         ensures stays { IsTrue tells → SameEntries (at self.old) (at self.new) }
         ensures failed_only { TakesNone result buf.now (Rose (faults self.old) (faults self.new)) }
+        ensures uncounted { TakesSome result buf.now (faults self.new ≡ faults self.old) }
         ensures faults_never_fall { faults self.old ≤ faults self.new };
 
     /// Has the system keep what was written to the file that was created at this path, so that it outlasts a loss of
@@ -126,6 +132,7 @@ pub trait System {
         ensures others { IsTrue tells
             → OnlyPath path.now (files_of (at self.old)) (files_of (at self.new)) }
         ensures failed_only { OnErr result (Rose (faults self.old) (faults self.new)) }
+        ensures uncounted { OnOk result (faults self.new ≡ faults self.old) }
         ensures faults_never_fall { faults self.old ≤ faults self.new };
 
     /// Closes the file that was created at this path. From then on the path has what was written to the file.
@@ -135,7 +142,7 @@ pub trait System {
             at self.new path.now ≡ File bytes) }
         ensures others { IsTrue tells
             → OnlyPath path.now (files_of (at self.old)) (files_of (at self.new)) }
-        ensures faults_never_fall { faults self.old ≤ faults self.new };
+        ensures uncounted { faults self.new ≡ faults self.old };
 
     /// Gives a file that the system keeps another name, in place of the file that had it, in one step.
     ///
@@ -149,5 +156,6 @@ pub trait System {
             ((q : List ℕ) → q ≢ from.now → q ≢ to.now → at self.new q ≡ at self.old q) }
         ensures err { IsTrue tells → OnErr result (SameEntries (at self.old) (at self.new)) }
         ensures failed_only { OnErr result (Rose (faults self.old) (faults self.new)) }
+        ensures uncounted { OnOk result (faults self.new ≡ faults self.old) }
         ensures faults_never_fall { faults self.old ≤ faults self.new };
 }

@@ -24,9 +24,10 @@ impl<R: Files> SystemCalls<R> {
         SystemCalls { runtime, faults: 0 }
     }
 
-    /// Counts a call that failed.
+    /// Counts a call if it failed.
     fn count(&mut self, failed: bool)
         ensures failed { failed ≡ true → Rose self.old.faults self.new.faults }
+        ensures uncounted { failed ≡ false → self.new.faults ≡ self.old.faults }
         ensures never_falls { self.old.faults ≤ self.new.faults }
     {
         if failed {
@@ -82,7 +83,7 @@ impl<R: Files> System for SystemCalls<R> {
 
     fn write(&mut self, file: &mut R::File, buf: &[u8]) -> io::Result<usize> {
         let answer = file.write(buf);
-        let takes = matches!(answer, Ok(taken) if taken > 0);
+        let takes = matches!(answer, Ok(taken) if taken > 0 || buf.is_empty());
         self.count(!takes);
         answer
     }

@@ -14,7 +14,6 @@ use Rattle.std.proofs.lemmas.List.Sorted.{searchable_from_sorted, sorted_far}
 use Rattle.std.proofs.lemmas.List.MinMax.{ranks_by}
 use Rattle.std.proofs.lemmas.Map.Text.{is_eq-slice_cmp}
 use Rattle.std.proofs.lemmas.Slice.Eq.{bytes_eq-Decides}
-use Rattle.std.proofs.lemmas.Map.Lookups.{both_Equal}
 use Rattle.ucd_points.specs.PlainProofs.{equal_is}
 use Rattle.ucd_points.specs.declared.files.SourceFile.{SourceFile}
 use Rattle.ucd_points.specs.declared.files.SourceFile.TheVariants.{UnicodeData, PropList, Scripts, WordBreakProperty, CompositionExclusions, CaseFolding, SpecialCasing, PropertyAliases, PropertyValueAliases}
@@ -38,6 +37,10 @@ greater_is a b h = let r = ranks a b in (rw h at r)
 
 same_name : (a b : Entry) → a.0.now ≡ b.0.now → entry_cmp a b ≡ nat_cmp a.1 b.1
 same_name a b same = ap (λ o. ordering_then o (nat_cmp a.1 b.1)) (ap (λ n. slice_cmp nat_cmp n b.0.now) same ∙ bytes_equal b.0.now)
+
+tied : (o p : Ordering) → ordering_then o p ≡ Equal → (o ≡ Equal) × (p ≡ Equal)
+tied Equal p h = (refl, h)
+tied _ p h = absurd cc
 
 -- what is greater by another name has the greater name
 other_greater : (o p : Ordering) → ordering_then o p ≡ Greater → (o ≡ Equal → ⊥) → ordering_reverse o ≡ Less
@@ -106,7 +109,7 @@ module _ (rows : List (List (List ℕ))) (entries : List Entry) (h : AreNames ro
   pub next_other : (i : ℕ) (a : Entry) → i < length entries → get_or entries i a ≡ a → Searched i → bytes_eq a.0.now x.0.now ≡ false → IsNext (has_name rows x.0.now) x.1 None
   next_other i a inside at (inl on) other =
       let equal : entry_cmp a x ≡ Equal = subst (λ (e : Entry). entry_cmp e x ≡ Equal) at (on.1 a) in
-      let name : a.0.now ≡ x.0.now = slice_cmp-IsAntisymmetric nat_cmp-IsAntisymmetric a.0.now x.0.now (both_Equal (slice_cmp nat_cmp a.0.now x.0.now) (nat_cmp a.1 x.1) equal).0 in
+      let name : a.0.now ≡ x.0.now = slice_cmp-IsAntisymmetric nat_cmp-IsAntisymmetric a.0.now x.0.now (tied (slice_cmp nat_cmp a.0.now x.0.now) (nat_cmp a.1 x.1) equal).0 in
       let yes : bytes_eq a.0.now x.0.now ≡ true = (bytes_eq-Decides a.0.now x.0.now).1 name in
       absurd (cc)
   next_other i a inside at (inr point) other =
@@ -122,7 +125,7 @@ module _ (rows : List (List (List ℕ))) (entries : List Entry) (h : AreNames ro
   pub next_same : (i : ℕ) (a : Entry) → i < length entries → get_or entries i a ≡ a → Searched i → bytes_eq a.0.now x.0.now ≡ true → IsNext (has_name rows x.0.now) x.1 (Some a.1)
   next_same i a inside at (inl on) same =
       let equal : entry_cmp a x ≡ Equal = subst (λ (e : Entry). entry_cmp e x ≡ Equal) at (on.1 a) in
-      let here : a.1 ≡ x.1 = nat_cmp-IsAntisymmetric a.1 x.1 (both_Equal (slice_cmp nat_cmp a.0.now x.0.now) (nat_cmp a.1 x.1) equal).1 in
+      let here : a.1 ≡ x.1 = nat_cmp-IsAntisymmetric a.1 x.1 (tied (slice_cmp nat_cmp a.0.now x.0.now) (nat_cmp a.1 x.1) equal).1 in
       (omega (arith, here), has_it i a inside at ((bytes_eq-Decides a.0.now x.0.now).0 same), λ k le lt. absurd (omega (arith, here, le, lt)))
   next_same i a inside at (inr point) same =
       let name : a.0.now ≡ x.0.now = (bytes_eq-Decides a.0.now x.0.now).0 same in

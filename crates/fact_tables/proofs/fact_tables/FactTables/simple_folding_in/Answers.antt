@@ -1,4 +1,4 @@
-use Rattle.std.proofs.Common.{[], unwrap_or, ap, sym, ◌∙◌, arith}
+use Rattle.std.proofs.Common.{◌≡◌, [], unwrap_or, ap, sym, ◌∙◌, arith}
 use Rattle.std.specs.Option.{option_copied}
 use Rattle.ucd_facts.specs.Facts.{Facts, only_or}
 use Rattle.fact_tables.specs.FactTables.{words_at, rests_at}

@@ -4,7 +4,8 @@
 -- listings_of file    what the sections of a file stand for, in order
 -- listing_labels l R  the label of each code point in that section, over the records R
 -- shown_label l kept  the label of the record that is kept
-use Rattle.std.specs.Prelude.{ℕ, List, [], ◌∷◌, map, codes}
+-- TellsSame says f    two records of which a call says that they are the same have one label by f
+use Rattle.std.specs.Prelude.{◌≡◌, ℕ, Bool, true, List, [], ◌∷◌, map, codes}
 use Rattle.std.specs.Borrow.{Bor}
 use Rattle.ucd_model.specs.Labels.{Label}
 use Rattle.ucd_model.specs.DerivedFiles.{Section, core_listing, category_listing, class_listing, type_listing, exclusion_listing, quick_listing, casefold_listing, simple_casefold_listing, changes_listing}
@@ -54,3 +55,6 @@ listing_labels listing R c = (listing_section listing).label (R c)
 
 abbrev pub shown_label : Listing → Bor Kept → Label
 shown_label listing kept = (listing_section listing).label (kept_record kept.now)
+
+abbrev pub TellsSame : (Bor Kept → Bor Kept → Bool → Type 0) → (Record → Label) → Type 0
+TellsSame says f = (a b : Bor Kept) (said : Bool) → says a b said → said ≡ true → f (kept_record a.now) ≡ f (kept_record b.now)

@@ -3,9 +3,10 @@
 ghost use Rattle.std.specs.Prelude.{◌≡◌, ◌≤◌, ◌<◌, ℕ, IsTrue, OnOk, length, map, slice_index_or};
 ghost use Rattle.std.specs.Borrow.{Bor};
 ghost use Rattle.ucd_model.specs.DerivedFiles.{file_sections};
-ghost use Rattle.ucd_model.specs.Records.{kept_record};
+ghost use Rattle.ucd_model.specs.Labels.{Label};
+ghost use Rattle.ucd_model.specs.Records.{Record as RecordValue, kept_record};
 ghost use Rattle.ucd_model.specs.declared.records.Record.{Record as Kept};
-ghost use Rattle.derived_writer.specs.Listings.{listing_section, listings_of, check_value, shown_label};
+ghost use Rattle.derived_writer.specs.Listings.{listing_section, listings_of, check_value, shown_label, TellsSame};
 
 use crate::names::check_name;
 use crate::values::{set_binary, set_casefold, set_category, set_class, set_kind, set_quick};
@@ -136,12 +137,10 @@ impl Listing {
             → shown_label self (slice_index_or records.now k kept)
             ≡ shown_label self (slice_index_or records.now at kept) }
     {
-        let first = records[at];
-        let mut end = at + 1;
-        'records: while end < records.len() && self.is_same(first, records[end]) {
-            end += 1;
+        match self {
+            Listing::Core(core) => end_by(records, at, |a, b| a.core.has(core) == b.core.has(core)),
+            _ => end_by(records, at, |a, b| self.is_same(a, b)),
         }
-        end
     }
 
     /// Whether two records have one value in this section, and so one label.
@@ -161,6 +160,26 @@ impl Listing {
             Listing::ChangesCasefold => a.changes_casefold == b.changes_casefold,
         }
     }
+}
+
+/// The place after the records from the one at `at` on that are the same as it, as far as `is_same` tells. Most sections are of
+/// core properties: these have a loop of their own, which does not ask at each record what the section lists.
+fn end_by<F: Fn(&Record, &Record) -> bool>(records: &[&Record], at: usize, is_same: F) -> usize
+    requires inside { at < length records.now }
+    requires callable { F.IsAlwaysCallable is_same }
+    ensures from { at < result }
+    ensures within { result ≤ length records.now }
+    ensures same { (f : RecordValue → Label) → TellsSame (F.post is_same) f
+        → (k : ℕ) (kept : Bor Kept) → at ≤ k → k < result
+        → f (kept_record (slice_index_or records.now k kept).now)
+        ≡ f (kept_record (slice_index_or records.now at kept).now) }
+{
+    let first = records[at];
+    let mut end = at + 1;
+    'records: while end < records.len() && is_same(first, records[end]) {
+        end += 1;
+    }
+    end
 }
 
 /// The quick check of a form.

@@ -106,7 +106,7 @@ impl Run {
                 let run = Span::between(Point::at(self.first), Point::at(self.end - 1));
                 put_span(run, text)?;
                 text.append(label)?;
-                text.append(b"\n")?;
+                text.push(b'\n')?;
                 Ok(self.end - self.first)
             }
         }

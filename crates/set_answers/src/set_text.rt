@@ -73,5 +73,5 @@ fn put_entry(text: &mut Text, span: Span) -> Result<(), Memory>
     ensures { OnOk result (text.new ≡ text.old ++ span_entry span) }
 {
     put_span(span, text)?;
-    text.append(b"\n")
+    text.push(b'\n')
 }

@@ -1,5 +1,4 @@
 pub mod Places
-pub mod Blanks
 pub mod ItemCuts
 pub mod FieldCuts
 pub mod Digits

@@ -5,8 +5,6 @@ ghost use Rattle.std.specs.List.{prefix_len, suffix_len};
 ghost use Rattle.ucd_points.specs.Fields.{trim_start, trim_end, trim};
 ghost use Rattle.ucd_points.specs.Lines.{is_blank};
 
-use bstr::ByteSlice;
-
 /// Whether a byte is white space: space or tab.
 #[inline]
 pub fn is_blank(byte: u8) -> bool
@@ -26,15 +24,17 @@ pub fn leading_blanks(text: &[u8]) -> usize
     }
 }
 
-/// The place of the first byte that is no white space, or the length of the text if there is none.
+/// The place of the first byte that is no white space, or the length of the text if there is none. White space is mostly short,
+/// so it goes byte by byte.
 fn first_other(text: &[u8]) -> usize
     ensures place { result ≡ prefix_len is_blank text.now }
     ensures within { result ≤ length text.now }
 {
-    match text.find_not_byteset(b" \t") {
-        Some(at) => at,
-        None => text.len(),
+    let mut at = 0;
+    'blanks: while at < text.len() && is_blank(text[at]) {
+        at += 1;
     }
+    at
 }
 
 /// The text without white space at its beginning.
@@ -44,15 +44,16 @@ fn trim_start(text: &[u8]) -> &[u8]
     &text[leading_blanks(text)..]
 }
 
-/// The place behind the last byte that is no white space, or 0 if there is none.
+/// The place behind the last byte that is no white space, or 0 if there is none. It goes byte by byte too.
 fn behind_last_other(text: &[u8]) -> usize
     ensures place { result ≡ length text.now - suffix_len is_blank text.now }
     ensures within { result ≤ length text.now }
 {
-    match text.rfind_not_byteset(b" \t") {
-        Some(at) => at + 1,
-        None => 0,
+    let mut end = text.len();
+    'blanks: while end > 0 && is_blank(text[end - 1]) {
+        end -= 1;
     }
+    end
 }
 
 /// The text without white space at its end. Most fields end in none, and are not searched.

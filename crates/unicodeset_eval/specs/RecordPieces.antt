@@ -9,12 +9,14 @@
 -- AreCutTo R n pieces      the pieces are those of a cut of the code points before n into such spans
 -- AreCut R pieces          the same of all code points
 -- ArePiecesOf pieces R     these are such pieces
+-- SaysAs gives f           what a call gives for values is what f says of their record
 -- at_first f ps            what f says of the first piece
 -- piece_turns n f b ps     the numbers at which f turns, over pieces; b is what it is before them, and from n on it is false
 -- tells_unfolded           no test asks for an NFKC_Casefold
 -- piece_turns_are          pieces of a cut turn where the spans do
 -- at_first_is              the first piece of a cut begins at 0
 use Rattle.std.proofs.Common.{◌≡◌, ℕ, ◌<◌, Bool, false, List, [], ◌∷◌, map, refl, ap, ◌∙◌, arith}
+use Rattle.std.specs.Borrow.{Bor}
 use Rattle.ucd_points.specs.Bounds.{Bounds}
 use Rattle.ucd_model.specs.Cuts.{IsCut}
 use Rattle.ucd_points.specs.Limits.{point_count}
@@ -74,6 +76,9 @@ AreCut R pieces = AreCutTo R point_count pieces
 
 abbrev pub ArePiecesOf : RecordPieces → (ℕ → Record) → Type 0
 ArePiecesOf pieces R = AreCut R pieces.pieces.items
+
+abbrev pub SaysAs : (Bor PropertyValues → Bool → Type 0) → (Record → Bool) → Type 0
+SaysAs gives f = (shown : Bor PropertyValues) (said : Bool) → gives shown said → said ≡ f (values_record shown.now)
 
 abbrev pub at_first : (Record → Bool) → List PieceValue → Bool
 at_first f [] = false

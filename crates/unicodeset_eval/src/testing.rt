@@ -1,11 +1,12 @@
 //! Tests of what is derived for each code point, and their sets.
 
-ghost use Rattle.std.specs.Prelude.{◌≡◌, ℕ, ◌&&◌, map, nat_lt, IfOk};
+ghost use Rattle.std.specs.Prelude.{◌≡◌, ℕ, Bool, ◌&&◌, map, nat_lt, IfOk};
 ghost use Rattle.ucd_points.specs.Limits.{point_count};
 ghost use Rattle.ucd_facts.specs.Predicates.{is_one_of};
+ghost use Rattle.ucd_model.specs.Records.{Record};
 ghost use Rattle.unicodeset_eval.specs.Edges.{has};
 ghost use Rattle.unicodeset_eval.specs.Found.{tells};
-ghost use Rattle.unicodeset_eval.specs.RecordPieces.{at_first, piece_turns, piece_value, values_record};
+ghost use Rattle.unicodeset_eval.specs.RecordPieces.{SaysAs, at_first, piece_turns, piece_value, values_record};
 ghost use Rattle.unicodeset_eval.specs.Tests.{check_of, group_categories};
 
 use crate::index::SetIndex;
@@ -97,22 +98,51 @@ fn at_first(test: Test, pieces: &[Piece]) -> bool
     }
 }
 
-/// The numbers at which a test turns, over pieces of equal records; `starts` is what it says of the code point 0.
+/// The numbers at which what `says` says turns, over pieces of equal records; `starts` is what it says of the code point 0.
 ///
 /// - `Memory`: memory ran out.
-fn turns(alloc: Global, pieces: &[Piece], test: Test, starts: bool) -> Result<Vec<u32>, Memory>
-    ensures { IfOk result (λ edges. edges.items
-        ≡ piece_turns point_count (tells test) starts (map piece_value pieces.now)) }
+fn turns<F: Fn(&PropertyValues) -> bool>(
+    alloc: Global,
+    pieces: &[Piece],
+    starts: bool,
+    says: F,
+) -> Result<Vec<u32>, Memory>
+    requires { F.IsAlwaysCallable says }
+    ensures { IfOk result (λ edges. (f : Record → Bool) → SaysAs (F.post says) f
+        → edges.items ≡ piece_turns point_count f starts (map piece_value pieces.now)) }
 {
     let mut edges = Vec::new(alloc);
     let mut inside = starts;
     'pieces: for piece in pieces {
-        let next = tells(test, &piece.values);
+        let next = says(&piece.values);
         emit(&mut edges, inside, next, piece.first)?;
         inside = next;
     }
     emit(&mut edges, inside, false, point_count())?;
     Ok(edges)
+}
+
+/// The numbers at which a test turns, over pieces of equal records; `starts` is what it says of the code point 0. The tests that are
+/// asked most have a loop each, which does not ask at each piece which test it is.
+///
+/// - `Memory`: memory ran out.
+fn test_turns(alloc: Global, pieces: &[Piece], test: Test, starts: bool) -> Result<Vec<u32>, Memory>
+    ensures { IfOk result (λ edges. edges.items
+        ≡ piece_turns point_count (tells test) starts (map piece_value pieces.now)) }
+{
+    match test {
+        Test::Category(category) => turns(alloc, pieces, starts, |shown| {
+            category.place() == shown.category.place()
+        }),
+        Test::Class(class) => turns(alloc, pieces, starts, |shown| class == shown.class),
+        Test::Decomposition(kind) => turns(alloc, pieces, starts, |shown| {
+            kind.place() == shown.kind.place()
+        }),
+        Test::Core(core, wanted) => turns(alloc, pieces, starts, |shown| {
+            shown.core.has(core) == wanted
+        }),
+        _ => turns(alloc, pieces, starts, |shown| tells(test, shown)),
+    }
 }
 
 impl<'b, B: Records> SetIndex<'b, B> {
@@ -126,7 +156,7 @@ impl<'b, B: Records> SetIndex<'b, B> {
     {
         let pieces = self.pieces;
         let starts = at_first(test, pieces);
-        let edges = turns(alloc, pieces, test, starts)?;
+        let edges = test_turns(alloc, pieces, test, starts)?;
         Ok(PointSet::of_edges(starts, edges))
     }
 }

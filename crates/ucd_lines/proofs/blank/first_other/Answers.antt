@@ -1,8 +1,12 @@
-use Rattle.ucd_lines.proofs.Blanks.{found_first, no_first}
+use Rattle.std.proofs.Common.{◌≡◌, false, get_or, sym, rules, arith}
+use Rattle.std.proofs.lemmas.List.Sums.{prefix_len_is}
+use Rattle.ucd_points.specs.Lines.{is_blank}
 use Rattle.ucd_lines.proofs.blank.first_other.Goals as goal
 
-pub returns-in-Some-clause-place : goal.returns-in-Some-clause-place
-returns-in-Some-clause-place c = found_first c.args.text.now c.in-Some.at c.in-Some.ensures
+pub returns-else-is_blank-clause-place : goal.returns-else-is_blank-clause-place
+returns-else-is_blank-clause-place c =
+    let other : is_blank (get_or c.args.text.now c.blanks.at 0) ≡ false = search rules in
+    sym (prefix_len_is is_blank c.args.text.now c.blanks.at 0 c.blanks.invariant.0 c.blanks.invariant.1 (λ _. other))
 
-pub returns-in-None-clause-place : goal.returns-in-None-clause-place
-returns-in-None-clause-place c = no_first c.args.text.now c.in-None.ensures
+pub returns-after-blanks-clause-place : goal.returns-after-blanks-clause-place
+returns-after-blanks-clause-place c = sym (prefix_len_is is_blank c.args.text.now c.blanks.at 0 c.blanks.invariant.0 c.blanks.invariant.1 (λ lt. absurd (omega arith)))

@@ -10,7 +10,7 @@ use std::alloc::Global;
 use ucd_model::{FactView, FactsRef, Folding, FormStop, Image, Memory, Point, Points};
 
 /// NFKC_Casefold and NFKC_Simple_Casefold of a code point. UAX #44, section 5.3.
-#[derive(Debug, Drop)]
+#[derive(Drop)]
 pub struct Casefolds {
     /// NFKC_Casefold.
     pub full: Image,

@@ -1,7 +1,7 @@
 //! What is now and what is next.
 
 /// One of the two versions of a list.
-#[derive(Clone, Copy, Debug)]
+#[derive(Clone, Copy)]
 pub enum Version {
     /// What was committed last.
     Now,

@@ -14,7 +14,7 @@ use crate::loose::{first_of, is_same};
 use std::hash::{Hash, Hasher};
 
 /// A name, told by what counts of it: a key of a map, in which it is looked up without a copy.
-#[derive(Debug, Drop)]
+#[derive(Drop)]
 pub(crate) enum LooseName<'a> {
     /// A name that is kept. It has only what counts, so to compare with it takes no longer than the other name has bytes.
     Kept(Vec<u8>),

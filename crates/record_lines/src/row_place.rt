@@ -1,7 +1,7 @@
 //! Where a row stands in its file.
 
 /// Where a row stands in its file.
-#[derive(Clone, Copy, Debug)]
+#[derive(Clone, Copy)]
 pub struct RowPlace {
     /// The number of its first line, counted from 1.
     pub line: u64,

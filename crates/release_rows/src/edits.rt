@@ -23,7 +23,7 @@ use ucd_facts::{Memory, SourceFile};
 use ucd_lines::Ending;
 
 /// Where an entry is put.
-#[derive(Clone, Copy, Debug)]
+#[derive(Clone, Copy)]
 pub enum Gap {
     /// Before this one, which is the first.
     Front(Spot),

@@ -4,7 +4,7 @@ use crate::brief::Brief;
 use crate::sort_key::SortKey;
 
 /// The key of a row, its last code points, and what is kept of what the row gives.
-#[derive(Debug, Drop)]
+#[derive(Drop)]
 pub struct Entry {
     /// The key.
     pub place: SortKey,

@@ -11,7 +11,7 @@ use std::cmp::Ordering;
 use ucd_facts::Memory;
 
 /// The key of a row, and the last code point that no other row may have.
-#[derive(Debug, PartialEq, Eq, PartialOrd, Ord, Drop)]
+#[derive(PartialEq, Eq, PartialOrd, Ord, Drop)]
 pub struct KeyedExtent {
     /// The key.
     pub place: SortKey,

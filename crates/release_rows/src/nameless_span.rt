@@ -10,7 +10,7 @@ use crate::conflict::Conflict;
 use crate::sort_key::SortKey;
 
 /// The code points of a row whose key has no names.
-#[derive(Clone, Copy, Debug)]
+#[derive(Clone, Copy)]
 pub struct NamelessSpan {
     /// The first code point.
     pub first: u32,

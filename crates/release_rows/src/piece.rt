@@ -15,7 +15,7 @@ use ucd_facts::SourceFile;
 use ucd_lines::{Ending, Item, Items, is_trivia};
 
 /// A line, or a line that opens a range and the one behind it. UAX #44, section 4.2.3.
-#[derive(Clone, Copy, Debug)]
+#[derive(Clone, Copy)]
 pub struct Piece<'a> {
     /// The line, or the one that opens the range.
     pub first: Item<'a>,

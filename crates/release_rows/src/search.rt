@@ -15,7 +15,7 @@ use ucd_facts::{SourceFile, Text};
 use ucd_lines::{is_trivia, takes_missing};
 
 /// What an entry is tested for.
-#[derive(Clone, Copy, Debug)]
+#[derive(Clone, Copy)]
 pub enum Test {
     /// It has the key that is looked for.
     SameKey,

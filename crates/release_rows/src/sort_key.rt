@@ -1,7 +1,7 @@
 //! Keys in their order.
 
 /// The key of a row: its names, and then its first code point.
-#[derive(Debug, PartialEq, Eq, PartialOrd, Ord, Drop)]
+#[derive(PartialEq, Eq, PartialOrd, Ord, Drop)]
 pub struct SortKey {
     /// The names in order, with `;` between them; empty if the key has no names. No name holds a `;`.
     pub names: Vec<u8>,

@@ -12,7 +12,7 @@ use std::alloc::Global;
 use ucd_points::{Text, file_limit};
 
 /// Why reading stopped.
-#[derive(Clone, Copy, Debug, PartialEq, Eq)]
+#[derive(Clone, Copy, PartialEq, Eq)]
 pub enum ReadingStop {
     /// The path at this place, counted from 0, could not be read.
     FailedAt(usize),

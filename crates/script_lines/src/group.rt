@@ -3,7 +3,7 @@
 use release_rows::Ops;
 
 /// A group that is not closed yet.
-#[derive(Debug, Drop)]
+#[derive(Drop)]
 pub struct OpenGroup {
     /// The line of its `begin`, counted from 1.
     pub line: u32,

@@ -9,7 +9,7 @@ use ucd_facts::SourceFile;
 use ucd_lines::{cut, first_at, is_trivia};
 
 /// How a row is put into a file.
-#[derive(Clone, Copy, Debug, PartialEq, Eq)]
+#[derive(Clone, Copy, PartialEq, Eq)]
 pub enum Put {
     /// Between the rows that are there.
     Add,
@@ -18,7 +18,7 @@ pub enum Put {
 }
 
 /// A line of a script.
-#[derive(Clone, Copy, Debug)]
+#[derive(Clone, Copy)]
 pub enum Line<'a> {
     /// A blank line or a comment.
     Skipped,

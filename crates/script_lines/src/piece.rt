@@ -12,7 +12,7 @@ use ucd_facts::SourceFile;
 use ucd_lines::Items;
 
 /// A line, and the one behind it if the first begins a range.
-#[derive(Clone, Copy, Debug)]
+#[derive(Clone, Copy)]
 pub struct Piece<'a> {
     /// The content of the line.
     pub line: &'a [u8],

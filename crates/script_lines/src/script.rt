@@ -14,7 +14,7 @@ use ucd_facts::{Memory, Text};
 const GROUP_LIMIT: usize = 4096;
 
 /// The commands so far, and the group that is open.
-#[derive(Debug, Drop)]
+#[derive(Drop)]
 pub struct Script {
     /// The commands that are whole.
     pub commands: Commands,

@@ -19,7 +19,7 @@ pub struct KeptNames {
 }
 
 /// A part of what is kept, by the files whose rows tell it.
-#[derive(Clone, Copy, Debug)]
+#[derive(Clone, Copy)]
 pub(crate) enum Part {
     /// What PropList.txt tells.
     Listed,

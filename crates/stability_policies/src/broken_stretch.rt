@@ -8,7 +8,7 @@ use crate::policy_set::PolicySet;
 use ucd_model::{ListOf, Memory, Span};
 
 /// Code points that follow one another, and the policies that each of them breaks.
-#[derive(Clone, Copy, Debug)]
+#[derive(Clone, Copy)]
 pub struct BrokenStretch {
     /// The code points.
     pub span: Span,

@@ -11,7 +11,7 @@ use ucd_model::Memory;
 
 /// Which of two rows are taken: the first in what is left of the old release, and the first in what is left of the new
 /// one.
-#[derive(Clone, Copy, Debug)]
+#[derive(Clone, Copy)]
 pub enum Step {
     /// Both: they are the same row.
     Same,

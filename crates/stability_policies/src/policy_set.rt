@@ -9,7 +9,7 @@ ghost use Rattle.stability_policies.specs.declared.policy.Policy.{Policy as Poli
 use crate::policy::Policy;
 
 /// A set of policies.
-#[derive(Clone, Copy, Debug)]
+#[derive(Clone, Copy)]
 pub struct PolicySet {
     /// Whether the policy at each place is in the set.
     holds: [bool; 20],

@@ -47,7 +47,7 @@ pub fn summary(alloc: Global, counts: RunCounts) -> Result<Text, Memory>
 }
 
 /// What a run counts for the summary of `make`.
-#[derive(Clone, Copy, Debug, PartialEq, Eq)]
+#[derive(Clone, Copy, PartialEq, Eq)]
 pub struct MadeCounts {
     /// The number that the release is made of.
     pub number: u8,

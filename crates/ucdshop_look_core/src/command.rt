@@ -16,7 +16,7 @@ use ucdshop_core::{Job, ScriptPlace};
 const ASKED_LIMIT: usize = 64;
 
 /// What the words of a run ask for.
-#[derive(Clone, Copy, Debug)]
+#[derive(Clone, Copy)]
 pub enum Command<'a> {
     /// Answer questions on the release of a folder.
     Ask {

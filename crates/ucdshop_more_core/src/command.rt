@@ -15,7 +15,7 @@ const FOLDER_LIMIT: usize = 16;
 const DEPTH_LIMIT: u32 = 1024;
 
 /// What the words of a run ask for.
-#[derive(Clone, Copy, Debug)]
+#[derive(Clone, Copy)]
 pub enum Command<'a> {
     /// Let editors work on the release of the folder `input` as the file `events` says, and write what it is then, and what was
     /// replied, into the folder `output`.

@@ -14,7 +14,7 @@ use script_pieces::decimal_u32;
 use ucd_lines::cut;
 
 /// What an editor does at a desk, by a mark.
-#[derive(Clone, Copy, Debug, PartialEq, Eq)]
+#[derive(Clone, Copy, PartialEq, Eq)]
 pub enum DeskMark {
     /// `@ open E`: the editor comes.
     Open {

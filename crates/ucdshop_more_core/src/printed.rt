@@ -57,7 +57,7 @@ pub fn conform_summary(alloc: Global, cases: usize, misses: usize) -> Result<Tex
 }
 
 /// What a run of `ages` counts for its summary.
-#[derive(Clone, Copy, Debug, PartialEq, Eq)]
+#[derive(Clone, Copy, PartialEq, Eq)]
 pub struct AgeCounts {
     /// How many releases there are.
     pub releases: usize,

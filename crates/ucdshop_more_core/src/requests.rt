@@ -22,7 +22,7 @@ use std::alloc::Global;
 use ucd_model::ListOf;
 
 /// What an editor asks for: a mark, and the commands behind it.
-#[derive(Debug, Drop)]
+#[derive(Drop)]
 pub struct Request {
     /// The number of the mark's line, counted from 1.
     pub line: u32,

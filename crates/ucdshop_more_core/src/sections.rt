@@ -20,7 +20,7 @@ use std::alloc::Global;
 use ucd_model::ListOf;
 
 /// A section of a script: the groups behind a mark, or before the first.
-#[derive(Debug, Drop)]
+#[derive(Drop)]
 pub struct Section {
     /// The number of the mark's line, counted from 1: the latest group is taken back there. `None` before the first mark.
     pub undo: Option<u32>,

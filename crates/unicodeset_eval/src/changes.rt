@@ -11,7 +11,7 @@ use unicodeset_parser::Join;
 
 /// What steps do to the members so far. Two changes, one after the other, are one change again, so that steps can be
 /// put together before it is known what stands before them.
-#[derive(Debug, Drop)]
+#[derive(Drop)]
 pub(crate) struct Change {
     /// The numbers that stay in, if they were in.
     keep: PointSet,

@@ -13,7 +13,7 @@ use ucd_model::{
 };
 
 /// The values of the properties that tests ask for: those of a record but its NFKC_Casefold.
-#[derive(Clone, Copy, Debug)]
+#[derive(Clone, Copy)]
 pub(crate) struct PropertyValues {
     pub(crate) category: Category,
     pub(crate) class: u8,
@@ -28,7 +28,7 @@ pub(crate) struct PropertyValues {
 }
 
 /// Code points that follow one another, with records that no test tells apart.
-#[derive(Clone, Copy, Debug)]
+#[derive(Clone, Copy)]
 pub(crate) struct Piece {
     /// The number of the first one.
     pub(crate) first: u32,

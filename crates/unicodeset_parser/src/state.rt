@@ -4,7 +4,7 @@ use crate::expr::{Expr, Join, Parts};
 use ucd_points::{Point, Span};
 
 /// A bracket set that is open.
-#[derive(Debug, Drop)]
+#[derive(Drop)]
 pub(crate) struct Frame {
     /// Whether its complement is meant.
     pub(crate) negated: bool,
@@ -17,7 +17,7 @@ pub(crate) struct Frame {
 }
 
 /// The bracket sets that are open.
-#[derive(Debug, Drop)]
+#[derive(Drop)]
 pub(crate) struct Nest {
     /// The innermost one.
     pub(crate) frame: Frame,
@@ -26,7 +26,7 @@ pub(crate) struct Nest {
 }
 
 /// What may follow in the innermost bracket set.
-#[derive(Clone, Copy, Debug)]
+#[derive(Clone, Copy)]
 pub(crate) enum Mode {
     /// Its first element.
     First,
@@ -43,7 +43,7 @@ pub(crate) enum Mode {
 }
 
 /// How far a text is read.
-#[derive(Debug, Drop)]
+#[derive(Drop)]
 pub(crate) enum State {
     /// Nothing stands yet.
     Before,

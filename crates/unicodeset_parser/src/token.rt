@@ -4,7 +4,7 @@ use crate::expr::Expr;
 use ucd_points::Point;
 
 /// What may stand in no text. Which rule it breaks depends on the place where it stands.
-#[derive(Clone, Copy, Debug)]
+#[derive(Clone, Copy)]
 pub(crate) enum Wrong {
     /// A property that is never closed, or a `\p` or `\P` at the end of the text.
     Unclosed,
@@ -23,7 +23,7 @@ pub(crate) enum Wrong {
 }
 
 /// A token. White space is no part of it.
-#[derive(Debug, Drop)]
+#[derive(Drop)]
 pub(crate) enum Token {
     /// `[`, or `[^` if it is negated.
     Open(bool),
@@ -42,7 +42,7 @@ pub(crate) enum Token {
 }
 
 /// A token and how many bytes it takes.
-#[derive(Debug, Drop)]
+#[derive(Drop)]
 pub(crate) struct Lexeme {
     pub(crate) token: Token,
     pub(crate) size: usize,

@@ -23,7 +23,7 @@ pub struct RowKey {
 
 impl RowKey {
     /// Whether it is that of a row of the file and the key.
-    pub fn is_in(&self, file: SourceFile, key: &Key) -> bool
+    pub fn is_key_of(&self, file: SourceFile, key: &Key) -> bool
         ensures { result ≡ same_parts (row_parts (record { file = file; key = key.now }))
             (key_parts self.now) }
     {

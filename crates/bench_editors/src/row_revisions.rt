@@ -41,7 +41,7 @@ impl RowRevisions {
         ensures { result ≡ last_in self.now (row_parts (record { file = file; key = key.now })) }
     {
         'rows: for (row, last) in &self.last {
-            if row.is_in(file, key) {
+            if row.is_key_of(file, key) {
                 return *last;
             }
         }

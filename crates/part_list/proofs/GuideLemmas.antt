@@ -9,7 +9,7 @@ use Rattle.std.proofs.Math.ListN.{get_or-append}
 use Rattle.std.proofs.Math.Seq.{get_or-append_seam}
 use Rattle.std.proofs.lemmas.List.Elements.{filter-append}
 use Rattle.part_list.specs.declared.reach.Reach.{Reach}
-use Rattle.part_list.specs.declared.spanned.Spanned.{Spanned}
+use Rattle.part_list.specs.declared.entry.Entry.{Entry}
 use Rattle.part_list.specs.Guides.{Covers, CoversBut, RulesOut, width}
 use Rattle.part_list.specs.Parts.{flat, part_at}
 use Rattle.part_list.specs.PartValues.{PartValue, committed, discarded, has_entries, parts_now, parts_next}
@@ -24,7 +24,7 @@ past : {A : Type 0} (P : A → Type 0) (xs : List (List A)) (k : ℕ) → length
 past P xs k h = rw (get_or_past xs k [] h) (λ i d lt. absurd (omega arith))
 
 -- the entries of one more part are within the wider reach
-pub within_more : {A : Type 0} (old new : Reach) (ps : List (PartValue (Spanned A))) (n : ℕ) (part : PartValue (Spanned A)) → IsWider old new → n < length ps → part ≡ get_or ps n part → All (IsWithin new) part.next → ((k : ℕ) → k < n → All (IsWithin old) (part_at (parts_next ps) k)) → (k : ℕ) → k < n + 1 → All (IsWithin new) (part_at (parts_next ps) k)
+pub within_more : {A : Type 0} (old new : Reach) (ps : List (PartValue (Entry A))) (n : ℕ) (part : PartValue (Entry A)) → IsWider old new → n < length ps → part ≡ get_or ps n part → All (IsWithin new) part.next → ((k : ℕ) → k < n → All (IsWithin old) (part_at (parts_next ps) k)) → (k : ℕ) → k < n + 1 → All (IsWithin new) (part_at (parts_next ps) k)
 within_more old new ps n part wider lt is here before k below =
     let P : ℕ → Type 0 = λ j. All (IsWithin new) (part_at (parts_next ps) j) in
     let at : (k ≡ n) ⊎ (k < n) = eq-or-lt_of_le (omega arith) in
@@ -43,7 +43,7 @@ all_parts P xs each k =
     ]
 
 -- the parts of a block, which reaches to the end or has its full width
-pub in_block : {A : Type 0} (P : Spanned A → Type 0) (ps : List (PartValue (Spanned A))) (from to k : ℕ) → to ≤ length ps → k < width → (to < length ps → to ≡ from + width) → ((j : ℕ) → All P (part_at (parts_next (take (to - from) (drop from ps))) j)) → All P (part_at (parts_next ps) (from + k))
+pub in_block : {A : Type 0} (P : Entry A → Type 0) (ps : List (PartValue (Entry A))) (from to k : ℕ) → to ≤ length ps → k < width → (to < length ps → to ≡ from + width) → ((j : ℕ) → All P (part_at (parts_next (take (to - from) (drop from ps))) j)) → All P (part_at (parts_next ps) (from + k))
 in_block P ps from to k le small full each =
     let xs = parts_next ps in
     let at : (from + k < to) ⊎ (to ≤ from + k) = cases_lt (from + k) to in
@@ -63,7 +63,7 @@ in_block P ps from to k le small full each =
           ]
     ]
 
-pub covers_more : {A : Type 0} (guides : List Reach) (r : Reach) (xs : List (List (Spanned A))) → Covers guides xs → ((k : ℕ) → k < width → All (IsWithin r) (part_at xs (length guides * width + k))) → Covers (guides ++ r ∷ []) xs
+pub covers_more : {A : Type 0} (guides : List Reach) (r : Reach) (xs : List (List (Entry A))) → Covers guides xs → ((k : ℕ) → k < width → All (IsWithin r) (part_at xs (length guides * width + k))) → Covers (guides ++ r ∷ []) xs
 covers_more guides r xs old new block k d lt small =
     let here : Reach → ℕ → Type 0 = λ g b. All (IsWithin g) (part_at xs (b * width + k)) in
     let at : (block < length guides) ⊎ (length guides ≤ block) = cases_lt block (length guides) in
@@ -76,7 +76,7 @@ covers_more guides r xs old new block k d lt small =
           subst (λ g. here g block) read (subst (here r) same (new k small))
     ]
 
-pub covers_set : {A : Type 0} (guides : List Reach) (r : Reach) (slot : ℕ) (xs : List (List (Spanned A))) → slot / width < length guides → CoversBut slot guides xs → ((k : ℕ) → k < width → All (IsWithin r) (part_at xs (slot / width * width + k))) → Covers (set guides (slot / width) r) xs
+pub covers_set : {A : Type 0} (guides : List Reach) (r : Reach) (slot : ℕ) (xs : List (List (Entry A))) → slot / width < length guides → CoversBut slot guides xs → ((k : ℕ) → k < width → All (IsWithin r) (part_at xs (slot / width * width + k))) → Covers (set guides (slot / width) r) xs
 covers_set guides r slot xs inside others new block k d lt small =
     let s = slot / width in
     let here : Reach → ℕ → Type 0 = λ g b. All (IsWithin g) (part_at xs (b * width + k)) in
@@ -94,7 +94,7 @@ covers_set guides r slot xs inside others new block k d lt small =
     ]
 
 -- a block that is skipped rules its parts out
-pub ruled_more : {A : Type 0} (p : Spanned A → Bool) (guides : List Reach) (xs : List (List (Spanned A))) (from block : ℕ) (d : Reach) → Covers guides xs → block < length guides → Skips p (get_or guides block d) → RulesOut p xs from (block * width) → RulesOut p xs from (block * width + width)
+pub ruled_more : {A : Type 0} (p : Entry A → Bool) (guides : List Reach) (xs : List (List (Entry A))) (from block : ℕ) (d : Reach) → Covers guides xs → block < length guides → Skips p (get_or guides block d) → RulesOut p xs from (block * width) → RulesOut p xs from (block * width + width)
 ruled_more p guides xs from block d covers inside skips ruled slot le lt =
     let at : (slot < block * width) ⊎ (block * width ≤ slot) = cases_lt slot (block * width) in
     elim at [

@@ -9,7 +9,7 @@ use Rattle.std.proofs.Math.Seq.{get_or-append_right, get_or-append_seam}
 use Rattle.std.proofs.lemmas.List.Elements.{All-append, filter-append}
 use Rattle.std.proofs.lemmas.List.Sums.{position_or_len_is, passes_at_first, fails_before_first}
 use Rattle.part_list.specs.declared.reach.Reach.{Reach}
-use Rattle.part_list.specs.declared.spanned.Spanned.{Spanned}
+use Rattle.part_list.specs.declared.entry.Entry.{Entry}
 use Rattle.part_list.specs.Orders.{AreWithin, IsOrdered, IsOrderedIn, IsUpTo, IsWindow, NoneIn}
 use Rattle.part_list.specs.Parts.{spliced}
 use Rattle.part_list.specs.Reaches.{IsWithin, IsWider}
@@ -17,13 +17,13 @@ use Rattle.part_list.proofs.PassingLemmas.{none_pass}
 use Rattle.part_list.proofs.ReachLemmas.{all_wider}
 
 -- the entries up to a place are in order
-abbrev pub IsOrderedTo : {A : Type 0} → List (Spanned A) → ℕ → Type 0
-IsOrderedTo {A} xs n = (i j : ℕ) (d : Spanned A) → i ≤ j → j < n → IsUpTo (get_or xs i d) (get_or xs j d)
+abbrev pub IsOrderedTo : {A : Type 0} → List (Entry A) → ℕ → Type 0
+IsOrderedTo {A} xs n = (i j : ℕ) (d : Entry A) → i ≤ j → j < n → IsUpTo (get_or xs i d) (get_or xs j d)
 
-up_same : {A : Type 0} (a : Spanned A) → IsUpTo a a
+up_same : {A : Type 0} (a : Entry A) → IsUpTo a a
 up_same a = record { code = omega arith; last = omega arith }
 
-up_on : {A : Type 0} (a b c : Spanned A) → IsUpTo a b → IsUpTo b c → IsUpTo a c
+up_on : {A : Type 0} (a b c : Entry A) → IsUpTo a b → IsUpTo b c → IsUpTo a c
 up_on a b c p q =
     let first = p.code in
     let second = q.code in
@@ -32,7 +32,7 @@ up_on a b c p q =
     record { code = omega arith; last = omega arith }
 
 -- one more entry, which is not below the one before it
-pub ordered_more : {A : Type 0} (xs : List (Spanned A)) (n : ℕ) (x y : Spanned A) → 1 ≤ n → n < length xs → IsOrderedTo xs n → x ≡ get_or xs (n - 1) x → y ≡ get_or xs n y → IsUpTo x y → IsOrderedTo xs (n + 1)
+pub ordered_more : {A : Type 0} (xs : List (Entry A)) (n : ℕ) (x y : Entry A) → 1 ≤ n → n < length xs → IsOrderedTo xs n → x ≡ get_or xs (n - 1) x → y ≡ get_or xs n y → IsUpTo x y → IsOrderedTo xs (n + 1)
 ordered_more xs n x y some inside before x_is y_is next i j d le lt =
     let here : IsUpTo (get_or xs (n - 1) d) (get_or xs n d) =
     subst (λ a. IsUpTo a (get_or xs n d)) (x_is ∙ get_or_default xs (n - 1) x d (omega arith)) (subst (IsUpTo x) (y_is ∙ get_or_default xs n y d inside) next) in
@@ -47,12 +47,12 @@ ordered_more xs n x y some inside before x_is y_is next i j d le lt =
           ]
     ]
 
-pub ordered_one : {A : Type 0} (xs : List (Spanned A)) → IsOrderedTo xs 1
+pub ordered_one : {A : Type 0} (xs : List (Entry A)) → IsOrderedTo xs 1
 ordered_one xs i j d le lt =
     let first : i ≡ j = omega arith in
     rw first (up_same (get_or xs j d))
 
-pub ordered_less : {A : Type 0} (xs : List (Spanned A)) (n : ℕ) → IsOrderedTo xs n → length xs ≤ n → IsOrdered xs
+pub ordered_less : {A : Type 0} (xs : List (Entry A)) (n : ℕ) → IsOrderedTo xs n → length xs ≤ n → IsOrdered xs
 ordered_less xs n h le i j d before lt = h i j d before (omega arith)
 
 -- ---- what stands in the window
@@ -130,7 +130,7 @@ left_in p xs from to w =
 
 -- ---- bounds
 
-pub within_ordered : {A : Type 0} (xs : List (Spanned A)) (reach : Reach) (most from to : ℕ) (first last : Spanned A) → IsOrdered xs → All (IsWithin reach) xs → to ≤ length xs → last ≡ get_or xs (to - 1) last → last.code ≤ most → last.last ≤ most
+pub within_ordered : {A : Type 0} (xs : List (Entry A)) (reach : Reach) (most from to : ℕ) (first last : Entry A) → IsOrdered xs → All (IsWithin reach) xs → to ≤ length xs → last ≡ get_or xs (to - 1) last → last.code ≤ most → last.last ≤ most
     → AreWithin (record { least = (get_or xs from first).code; most = most; least_tag = reach.least_tag; most_tag = reach.most_tag }) xs from to
 within_ordered xs reach most from to first last ordered within le last_is code_most last_most k d low lt =
     let own = within k d (omega arith) in
@@ -142,7 +142,7 @@ within_ordered xs reach most from to first last ordered within le last_is code_m
     record { least = omega arith; code = omega arith; last = omega arith; least_tag = own.least_tag; most_tag = own.most_tag }
 
 -- one more entry at the end
-pub ordered_push : {A : Type 0} (xs : List (Spanned A)) (e x : Spanned A) → IsOrdered xs → (0 < length xs → (x ≡ get_or xs (length xs - 1) x) × IsUpTo x e) → IsOrdered (xs ++ e ∷ [])
+pub ordered_push : {A : Type 0} (xs : List (Entry A)) (e x : Entry A) → IsOrdered xs → (0 < length xs → (x ≡ get_or xs (length xs - 1) x) × IsUpTo x e) → IsOrdered (xs ++ e ∷ [])
 ordered_push xs e x ordered next =
     let ys = xs ++ e ∷ [] in
     let long = length-append xs (e ∷ []) in
@@ -159,13 +159,13 @@ ordered_push xs e x ordered next =
     ]
 
 -- a part that was not edited, with one more entry at the end
-pub ordered_pushed : {A : Type 0} (edit : Option (List (Spanned A))) (kept new : List (Spanned A)) (e : Spanned A) (a b : Bool) → is_some edit ≡ false → new ≡ kept ++ e ∷ [] → (a ≡ true → IsOrdered (unwrap_or edit kept)) → (b ≡ true → IsOrdered kept → IsOrdered (kept ++ e ∷ [])) → (a && b) ≡ true → IsOrdered (unwrap_or edit new)
+pub ordered_pushed : {A : Type 0} (edit : Option (List (Entry A))) (kept new : List (Entry A)) (e : Entry A) (a b : Bool) → is_some edit ≡ false → new ≡ kept ++ e ∷ [] → (a ≡ true → IsOrdered (unwrap_or edit kept)) → (b ≡ true → IsOrdered kept → IsOrdered (kept ++ e ∷ [])) → (a && b) ≡ true → IsOrdered (unwrap_or edit new)
 ordered_pushed None kept new e a b none is old next told =
     let both = and_parts a b told in
     subst IsOrdered (sym is) (next both.1 (old both.0))
 ordered_pushed (Some edit) kept new e a b none is old next told = absurd cc
 
-pub within_pushed : {A : Type 0} (edit : Option (List (Spanned A))) (kept new : List (Spanned A)) (e : Spanned A) (old wide : Reach) → is_some edit ≡ false → new ≡ kept ++ e ∷ [] → IsWider old wide → IsWithin wide e → All (IsWithin old) (unwrap_or edit kept) → All (IsWithin wide) (unwrap_or edit new)
+pub within_pushed : {A : Type 0} (edit : Option (List (Entry A))) (kept new : List (Entry A)) (e : Entry A) (old wide : Reach) → is_some edit ≡ false → new ≡ kept ++ e ∷ [] → IsWider old wide → IsWithin wide e → All (IsWithin old) (unwrap_or edit kept) → All (IsWithin wide) (unwrap_or edit new)
 within_pushed None kept new e old wide none is wider here before =
     subst (All (IsWithin wide)) (sym is)
     (All-append (IsWithin wide) kept (e ∷ []) (all_wider old wide wider kept before)
@@ -174,7 +174,7 @@ within_pushed (Some edit) kept new e old wide none is wider here before = absurd
 
 -- ---- an edit
 
-pub window_ordered : {A : Type 0} (xs : List (Spanned A)) (from to : ℕ) → from ≤ to → to ≤ length xs → IsOrdered (take (to - from) (drop from xs)) → IsOrderedIn xs from to
+pub window_ordered : {A : Type 0} (xs : List (Entry A)) (from to : ℕ) → from ≤ to → to ≤ length xs → IsOrdered (take (to - from) (drop from xs)) → IsOrderedIn xs from to
 window_ordered xs from to le within ordered i j d low up below inside =
     let sub = take (to - from) (drop from xs) in
     let long = chunk_len xs from to le within in
@@ -184,14 +184,14 @@ window_ordered xs from to le within ordered i j d low up below inside =
     let read_j : get_or sub (j - from) d ≡ get_or xs j d = chunk xs from to (j - from) d (omega arith) ∙ ap (λ n. get_or xs n d) at_j in
     subst (λ a. IsUpTo a (get_or xs j d)) read_i (subst (IsUpTo (get_or sub (i - from) d)) read_j (ordered (i - from) (j - from) d (omega arith) (omega arith)))
 
-pub ordered_wide : {A : Type 0} (xs : List (Spanned A)) (a b c e : ℕ) → IsOrderedIn xs a b → a ≤ c → (e ≤ b) ⊎ (length xs ≤ b) → IsOrderedIn xs c e
+pub ordered_wide : {A : Type 0} (xs : List (Entry A)) (a b c e : ℕ) → IsOrderedIn xs a b → a ≤ c → (e ≤ b) ⊎ (length xs ≤ b) → IsOrderedIn xs c e
 ordered_wide xs a b c e h le wide i j d low up below inside =
     elim wide [
       | inl to ↦ h i j d (omega arith) up (omega arith) inside
       | inr all ↦ h i j d (omega arith) up (omega arith) inside
     ]
 
-ordered_overlap : {A : Type 0} (xs : List (Spanned A)) (a b c e : ℕ) → IsOrderedIn xs a b → IsOrderedIn xs c e → a ≤ c → c < b → IsOrderedIn xs a e
+ordered_overlap : {A : Type 0} (xs : List (Entry A)) (a b c e : ℕ) → IsOrderedIn xs a b → IsOrderedIn xs c e → a ≤ c → c < b → IsOrderedIn xs a e
 ordered_overlap xs a b c e first second le lt i j d low up below inside =
     elim (cases_lt j b) [
       | inl inner ↦ first i j d low up inner inside
@@ -214,7 +214,7 @@ behind_at xs ys at n k d le low =
     let same : k - length (take at xs ++ ys) ≡ k - (at + length ys) = omega arith in
     get_or-append_right (take at xs ++ ys) (drop (at + n) xs) k d (omega arith) ∙ get_or-drop (at + n) xs (k - length (take at xs ++ ys)) d ∙ ap (λ m. get_or xs (at + n + m) d) same
 
-pub ordered_spliced : {A : Type 0} (xs : List (Spanned A)) (at n : ℕ) (ys : List (Spanned A)) → at + n ≤ length xs → length ys ≤ 2 → IsOrdered xs → IsOrderedIn (spliced xs at n ys) (at - 1) (at + 3) → IsOrdered (spliced xs at n ys)
+pub ordered_spliced : {A : Type 0} (xs : List (Entry A)) (at n : ℕ) (ys : List (Entry A)) → at + n ≤ length xs → length ys ≤ 2 → IsOrdered xs → IsOrderedIn (spliced xs at n ys) (at - 1) (at + 3) → IsOrdered (spliced xs at n ys)
 ordered_spliced xs at n ys le few old around =
     let new = spliced xs at n ys in
     let long = length-take-le at xs (omega arith) in

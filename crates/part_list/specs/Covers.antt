@@ -14,7 +14,7 @@ use Rattle.number_sets.specs.Bits.{has_number}
 use Rattle.number_sets.specs.declared.bit_set.BitSet.{BitSet}
 use Rattle.part_list.specs.declared.cover.Cover.{Cover}
 use Rattle.part_list.specs.declared.cover.Known.{Known}
-use Rattle.part_list.specs.declared.spanned.Spanned.{Spanned}
+use Rattle.part_list.specs.declared.entry.Entry.{Entry}
 
 abbrev pub AllSet : BitSet → ℕ → ℕ → Type 0
 AllSet points first last = (p : ℕ) → first ≤ p → p ≤ last → has_number points p ≡ true
@@ -22,31 +22,31 @@ AllSet points first last = (p : ℕ) → first ≤ p → p ≤ last → has_numb
 abbrev pub NoneSet : BitSet → ℕ → ℕ → Type 0
 NoneSet points first last = (p : ℕ) → first ≤ p → p ≤ last → has_number points p ≡ false
 
-abbrev pub end_of : {A : Type 0} → Spanned A → ℕ
+abbrev pub end_of : {A : Type 0} → Entry A → ℕ
 end_of entry = max entry.code entry.last
 
-pub record Meets {A : Type 0} (entry : Spanned A) (first last : ℕ) : Type 0 where
+pub record Meets {A : Type 0} (entry : Entry A) (first last : ℕ) : Type 0 where
   pub code : entry.code ≤ last
   pub end : first ≤ end_of entry
 
-abbrev pub AllMeet : {A : Type 0} → (Spanned A → Bool) → ℕ → ℕ → Type 0
-AllMeet {A} p first last = (entry : Spanned A) → p entry ≡ true → Meets entry first last
+abbrev pub AllMeet : {A : Type 0} → (Entry A → Bool) → ℕ → ℕ → Type 0
+AllMeet {A} p first last = (entry : Entry A) → p entry ≡ true → Meets entry first last
 
 abbrev pub IsOneOf : {A : Type 0} → List A → A → Type 0
 IsOneOf xs x = (k : ℕ) × (k < length xs) × (slice_index_or xs k x ≡ x)
 
-abbrev pub IsHeld : {A : Type 0} → Known A → Spanned A → Type 0
+abbrev pub IsHeld : {A : Type 0} → Known A → Entry A → Type 0
 IsHeld known entry = AllSet known.points entry.code (end_of entry) ⊎ IsOneOf known.wide.items entry
 
 abbrev pub HoldsMore : {A : Type 0} → Known A → Known A → Type 0
-HoldsMore {A} old new = (entry : Spanned A) → IsHeld old entry → IsHeld new entry
+HoldsMore {A} old new = (entry : Entry A) → IsHeld old entry → IsHeld new entry
 
-abbrev IsHeldIn : {A : Type 0} → Option (Box (Known A)) → Spanned A → Type 0
+abbrev IsHeldIn : {A : Type 0} → Option (Box (Known A)) → Entry A → Type 0
 IsHeldIn None entry = Unit {0}
 IsHeldIn (Some known) entry = IsHeld (box_value known) entry
 
-abbrev pub IsCovered : {A : Type 0} → Cover A → Spanned A → Type 0
+abbrev pub IsCovered : {A : Type 0} → Cover A → Entry A → Type 0
 IsCovered cover entry = IsHeldIn cover.known entry
 
 abbrev pub CoversMore : {A : Type 0} → Cover A → Cover A → Type 0
-CoversMore {A} old new = (entry : Spanned A) → IsCovered old entry → IsCovered new entry
+CoversMore {A} old new = (entry : Entry A) → IsCovered old entry → IsCovered new entry

@@ -3,8 +3,8 @@
 use Rattle.part_list.specs.Covers.{IsCovered}
 use Rattle.part_list.specs.SeenNumbers.{IsKnown}
 use Rattle.part_list.specs.declared.hints.Hints.{Hints}
-use Rattle.part_list.specs.declared.spanned.Spanned.{Spanned}
+use Rattle.part_list.specs.declared.entry.Entry.{Entry}
 
-pub record IsHinted {A : Type 0} (hints : Hints A) (entry : Spanned A) : Type 0 where
+pub record IsHinted {A : Type 0} (hints : Hints A) (entry : Entry A) : Type 0 where
   pub known : IsKnown hints.tags entry
   pub covered : IsCovered hints.cover entry

@@ -7,21 +7,21 @@
 -- IsWindow p xs from to   none passes outside of these places
 use Rattle.std.specs.Prelude.{◌≡◌, ℕ, ◌<◌, ◌≤◌, Bool, false, List, length, slice_index_or}
 use Rattle.part_list.specs.declared.reach.Reach.{Reach}
-use Rattle.part_list.specs.declared.spanned.Spanned.{Spanned}
+use Rattle.part_list.specs.declared.entry.Entry.{Entry}
 use Rattle.part_list.specs.Reaches.{IsWithin}
 
-pub record IsUpTo {A : Type 0} (a b : Spanned A) : Type 0 where
+pub record IsUpTo {A : Type 0} (a b : Entry A) : Type 0 where
   pub code : a.code ≤ b.code
   pub last : a.last ≤ b.last
 
-abbrev pub IsOrdered : {A : Type 0} → List (Spanned A) → Type 0
-IsOrdered {A} xs = (i j : ℕ) (d : Spanned A) → i ≤ j → j < length xs → IsUpTo (slice_index_or xs i d) (slice_index_or xs j d)
+abbrev pub IsOrdered : {A : Type 0} → List (Entry A) → Type 0
+IsOrdered {A} xs = (i j : ℕ) (d : Entry A) → i ≤ j → j < length xs → IsUpTo (slice_index_or xs i d) (slice_index_or xs j d)
 
-abbrev pub IsOrderedIn : {A : Type 0} → List (Spanned A) → ℕ → ℕ → Type 0
-IsOrderedIn {A} xs from to = (i j : ℕ) (d : Spanned A) → from ≤ i → i ≤ j → j < to → j < length xs → IsUpTo (slice_index_or xs i d) (slice_index_or xs j d)
+abbrev pub IsOrderedIn : {A : Type 0} → List (Entry A) → ℕ → ℕ → Type 0
+IsOrderedIn {A} xs from to = (i j : ℕ) (d : Entry A) → from ≤ i → i ≤ j → j < to → j < length xs → IsUpTo (slice_index_or xs i d) (slice_index_or xs j d)
 
-abbrev pub AreWithin : {A : Type 0} → Reach → List (Spanned A) → ℕ → ℕ → Type 0
-AreWithin {A} reach xs from to = (k : ℕ) (d : Spanned A) → from ≤ k → k < to → IsWithin reach (slice_index_or xs k d)
+abbrev pub AreWithin : {A : Type 0} → Reach → List (Entry A) → ℕ → ℕ → Type 0
+AreWithin {A} reach xs from to = (k : ℕ) (d : Entry A) → from ≤ k → k < to → IsWithin reach (slice_index_or xs k d)
 
 abbrev pub NoneIn : {A : Type 0} → (A → Bool) → List A → ℕ → ℕ → Type 0
 NoneIn {A} p xs from to = (k : ℕ) (d : A) → from ≤ k → k < to → p (slice_index_or xs k d) ≡ false

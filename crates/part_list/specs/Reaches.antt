@@ -4,9 +4,9 @@
 -- Skips p reach           no entry within the reach passes p
 use Rattle.std.specs.Prelude.{◌≡◌, ◌≤◌, Bool, false}
 use Rattle.part_list.specs.declared.reach.Reach.{Reach}
-use Rattle.part_list.specs.declared.spanned.Spanned.{Spanned}
+use Rattle.part_list.specs.declared.entry.Entry.{Entry}
 
-pub record IsWithin {A : Type 0} (reach : Reach) (entry : Spanned A) : Type 0 where
+pub record IsWithin {A : Type 0} (reach : Reach) (entry : Entry A) : Type 0 where
   pub least : reach.least ≤ entry.code
   pub code : entry.code ≤ reach.most
   pub last : entry.last ≤ reach.most
@@ -19,5 +19,5 @@ pub record IsWider (old new : Reach) : Type 0 where
   pub least_tag : new.least_tag ≤ old.least_tag
   pub most_tag : old.most_tag ≤ new.most_tag
 
-abbrev pub Skips : {A : Type 0} → (Spanned A → Bool) → Reach → Type 0
-Skips {A} p reach = (entry : Spanned A) → IsWithin reach entry → p entry ≡ false
+abbrev pub Skips : {A : Type 0} → (Entry A → Bool) → Reach → Type 0
+Skips {A} p reach = (entry : Entry A) → IsWithin reach entry → p entry ≡ false

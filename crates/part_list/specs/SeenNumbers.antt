@@ -5,7 +5,7 @@
 use Rattle.std.specs.Prelude.{◌≡◌, ℕ, Bool, true, Option, Some, None}
 use Rattle.std.specs.BTreeSet.{BTreeSet, contains}
 use Rattle.std.specs.Ordering.{nat_cmp}
-use Rattle.part_list.specs.declared.spanned.Spanned.{Spanned}
+use Rattle.part_list.specs.declared.entry.Entry.{Entry}
 use Rattle.part_list.specs.declared.seen_numbers.SeenNumbers.{SeenNumbers}
 
 abbrev is_seen : Option (BTreeSet ℕ) → ℕ → Bool
@@ -15,7 +15,7 @@ is_seen (Some seen) t = contains nat_cmp seen t
 abbrev pub may_have : SeenNumbers → ℕ → Bool
 may_have tags t = is_seen tags.seen t
 
-abbrev pub IsKnown : {A : Type 0} → SeenNumbers → Spanned A → Type 0
+abbrev pub IsKnown : {A : Type 0} → SeenNumbers → Entry A → Type 0
 IsKnown tags entry = may_have tags entry.tag ≡ true
 
 abbrev pub Grows : SeenNumbers → SeenNumbers → Type 0

@@ -7,14 +7,14 @@ ghost use Rattle.part_list.specs.Covers.{AllMeet, CoversMore, HoldsMore, IsCover
 ghost use Rattle.part_list.specs.Parts.{flat};
 ghost use Rattle.part_list.specs.PartValues.{parts_now, parts_next};
 ghost use Rattle.part_list.specs.Puts.{put_entries};
-ghost use Rattle.part_list.specs.declared.spanned.Spanned.{Spanned as Entry};
+ghost use Rattle.part_list.specs.declared.entry.Entry.{Entry};
 
+use crate::entry::Entry;
 use crate::find::first_in;
 use crate::part::Part;
 use crate::put::Put;
 use crate::seek::Seek;
 use crate::seen_numbers::entry_count;
-use crate::spanned::Spanned;
 use crate::version::Version;
 use number_sets::BitSet;
 use std::alloc::Global;
@@ -33,7 +33,7 @@ pub struct Known<T: Copy> {
     /// The code points.
     pub(crate) points: BitSet,
     /// Wide entries.
-    pub(crate) wide: Vec<Spanned<T>>,
+    pub(crate) wide: Vec<Entry<T>>,
 }
 
 /// The code points of which the entries of a list may speak; or nothing is known, and each may speak of any.
@@ -70,7 +70,7 @@ impl<T: Copy> Known<T> {
     }
 
     /// Puts an entry in. `false` if there is no room for it.
-    fn put(&mut self, entry: &Spanned<T>) -> bool
+    fn put(&mut self, entry: &Entry<T>) -> bool
         ensures put { result ≡ true → IsHeld self.new entry.now }
         ensures grows { HoldsMore self.old self.new }
     {
@@ -114,7 +114,7 @@ impl<T: Copy> Cover<T> {
     }
 
     /// Puts an entry in. If there is no room for it, nothing is known any more.
-    fn put(&mut self, entry: &Spanned<T>)
+    fn put(&mut self, entry: &Entry<T>)
         ensures put { IsCovered self.new entry.now }
         ensures grows { CoversMore self.old self.new }
     {
@@ -127,7 +127,7 @@ impl<T: Copy> Cover<T> {
     }
 
     /// Puts entries in.
-    fn put_all(&mut self, entries: &[Spanned<T>])
+    fn put_all(&mut self, entries: &[Entry<T>])
         ensures put { All (IsCovered self.new) entries.now }
         ensures grows { CoversMore self.old self.new }
     {
@@ -137,7 +137,7 @@ impl<T: Copy> Cover<T> {
     }
 
     /// Puts an entry in, if there is one.
-    fn put_some(&mut self, entry: Option<Spanned<T>>)
+    fn put_some(&mut self, entry: Option<Entry<T>>)
         ensures put { All (IsCovered self.new) (option_to_list entry) }
         ensures grows { CoversMore self.old self.new }
     {

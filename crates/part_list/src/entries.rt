@@ -4,8 +4,8 @@ ghost use Rattle.std.specs.Prelude.{◌≡◌, [], map};
 ghost use Rattle.part_list.specs.Parts.{flat};
 ghost use Rattle.part_list.specs.PartValues.{shown};
 
+use crate::entry::Entry;
 use crate::part::Part;
-use crate::spanned::Spanned;
 use crate::version::Version;
 use std::marker::Model;
 
@@ -14,13 +14,13 @@ use std::marker::Model;
 pub struct Entries<'a, T: Copy> {
     version: Version,
     /// The entries of the part that was begun.
-    entries: &'a [Spanned<T>],
+    entries: &'a [Entry<T>],
     parts: &'a [Part<T>],
 }
 
 impl<'a, T: Copy> Model for Entries<'a, T> {
     ghost use Rattle.std.specs.Prelude.{List, ◌++◌, map};
-    ghost use Rattle.part_list.specs.declared.spanned.Spanned.{Spanned as Entry};
+    ghost use Rattle.part_list.specs.declared.entry.Entry.{Entry};
     ghost use Rattle.part_list.specs.Parts.{flat};
     ghost use Rattle.part_list.specs.PartValues.{shown};
 
@@ -45,13 +45,13 @@ impl<'a, T: Copy> Entries<'a, T> {
 impl<'a, T: Copy> Iterator for Entries<'a, T> {
     ghost use Rattle.std.specs.Iterator.{YieldsFirst, item_count};
 
-    type Item = Spanned<T>;
+    type Item = Entry<T>;
 
     ghost next_gives = { YieldsFirst (λ rest. rest) };
 
     ghost remaining = { item_count (λ rest. rest) };
 
-    fn next(&mut self) -> Option<Spanned<T>> {
+    fn next(&mut self) -> Option<Entry<T>> {
         'parts: loop {
             if let [entry, rest @ ..] = self.entries {
                 self.entries = rest;

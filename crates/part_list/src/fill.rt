@@ -6,9 +6,9 @@ ghost use Rattle.part_list.specs.PartValues.{parts_now, parts_next};
 ghost use Rattle.part_list.specs.Puts.{put_entries};
 
 use crate::change::split;
+use crate::entry::Entry;
 use crate::part::Part;
 use crate::put::Put;
-use crate::spanned::Spanned;
 use crate::spot::Spot;
 use std::alloc::Global;
 use ucd_points::{ListOf, Memory};
@@ -16,11 +16,7 @@ use ucd_points::{ListOf, Memory};
 /// Puts an entry at the end, now and next.
 ///
 /// - `Memory`: memory ran out. The parts stay as they were.
-pub fn push<T: Copy>(
-    alloc: Global,
-    parts: &mut Vec<Part<T>>,
-    entry: Spanned<T>,
-) -> Result<(), Memory>
+pub fn push<T: Copy>(alloc: Global, parts: &mut Vec<Part<T>>, entry: Entry<T>) -> Result<(), Memory>
     ensures now { OnOk result (flat (parts_now parts.new.items) ≡ flat (parts_now parts.old.items)
         ++ entry ∷ []) }
     ensures next { OnOk result (flat (parts_next parts.new.items)
@@ -90,7 +86,7 @@ pub fn edit<T: Copy>(
 pub fn begin<T: Copy>(
     alloc: Global,
     parts: &mut Vec<Part<T>>,
-    entry: Spanned<T>,
+    entry: Entry<T>,
 ) -> Result<(), Memory>
     requires { parts.old.items ≡ [] }
     ensures now { flat (parts_now parts.new.items) ≡ [] }

@@ -4,13 +4,13 @@ ghost use Rattle.std.specs.Prelude.{◌≡◌, ◌+◌, ◌≤◌, drop, length}
 ghost use Rattle.std.specs.List.{position_or_len};
 ghost use Rattle.part_list.specs.Finds.{FirstIn, LastIn};
 
+use crate::entry::Entry;
 use crate::reach::Reach;
 use crate::seek::Seek;
-use crate::spanned::Spanned;
 
 /// The place from `from` on of the first entry that its bounds do not rule out; the length if they rule out all. The
 /// loop calls nothing, so it is a few comparisons for each entry.
-fn next_candidate<T: Copy, S: Seek<T>>(entries: &[Spanned<T>], seek: &S, from: usize) -> usize
+fn next_candidate<T: Copy, S: Seek<T>>(entries: &[Entry<T>], seek: &S, from: usize) -> usize
     requires from { from ≤ length entries.now }
     ensures within { result ≤ length entries.now }
     ensures from { from ≤ result }
@@ -28,7 +28,7 @@ fn next_candidate<T: Copy, S: Seek<T>>(entries: &[Spanned<T>], seek: &S, from: u
 }
 
 /// The place of the first entry that passes.
-pub fn first_in<T: Copy, S: Seek<T>>(entries: &[Spanned<T>], seek: &S) -> Option<usize>
+pub fn first_in<T: Copy, S: Seek<T>>(entries: &[Entry<T>], seek: &S) -> Option<usize>
     ensures { FirstIn result (S.passing seek.now) entries.now }
 {
     let mut at = next_candidate(entries, seek, 0);
@@ -42,14 +42,14 @@ pub fn first_in<T: Copy, S: Seek<T>>(entries: &[Spanned<T>], seek: &S) -> Option
 }
 
 /// Whether an entry passes. Mostly its bounds rule it out, which is a few comparisons.
-fn is_sought<T: Copy, S: Seek<T>>(entry: &Spanned<T>, seek: &S) -> bool
+fn is_sought<T: Copy, S: Seek<T>>(entry: &Entry<T>, seek: &S) -> bool
     ensures { result ≡ S.passing seek.now entry.now }
 {
     !seek.skips(Reach::NONE.with(entry)) && seek.passes(entry)
 }
 
 /// The place of the last entry that passes.
-pub fn last_in<T: Copy, S: Seek<T>>(entries: &[Spanned<T>], seek: &S) -> Option<usize>
+pub fn last_in<T: Copy, S: Seek<T>>(entries: &[Entry<T>], seek: &S) -> Option<usize>
     ensures { LastIn result (S.passing seek.now) entries.now }
 {
     let mut left = entries.len();

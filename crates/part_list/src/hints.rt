@@ -6,7 +6,7 @@ ghost use Rattle.part_list.specs.Hints.{IsHinted};
 ghost use Rattle.part_list.specs.Parts.{flat};
 ghost use Rattle.part_list.specs.PartValues.{parts_now, parts_next};
 ghost use Rattle.part_list.specs.Puts.{put_entries};
-ghost use Rattle.part_list.specs.declared.spanned.Spanned.{Spanned as Entry};
+ghost use Rattle.part_list.specs.declared.entry.Entry.{Entry};
 
 use crate::cover::Cover;
 use crate::part::Part;

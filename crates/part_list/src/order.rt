@@ -5,19 +5,19 @@ ghost use Rattle.std.specs.List.{All};
 ghost use Rattle.part_list.specs.Orders.{AreWithin, IsOrdered, IsOrderedIn, IsUpTo, IsWindow, NoneIn};
 ghost use Rattle.part_list.specs.Reaches.{IsWithin};
 
+use crate::entry::Entry;
 use crate::reach::Reach;
 use crate::seek::Seek;
-use crate::spanned::Spanned;
 
 /// Whether neither the first nor the last code point descends from one entry to another one.
-fn is_up_to<T: Copy>(entry: &Spanned<T>, behind: &Spanned<T>) -> bool
+fn is_up_to<T: Copy>(entry: &Entry<T>, behind: &Entry<T>) -> bool
     ensures { result ≡ true → IsUpTo entry.now behind.now }
 {
     entry.code <= behind.code && entry.last <= behind.last
 }
 
 /// Whether neither the first nor the last code points descend from one entry to the next.
-pub fn is_ordered<T: Copy>(entries: &[Spanned<T>]) -> bool
+pub fn is_ordered<T: Copy>(entries: &[Entry<T>]) -> bool
     ensures { result ≡ true → IsOrdered entries.now }
 {
     'entries: for at in 1..entries.len() {
@@ -29,7 +29,7 @@ pub fn is_ordered<T: Copy>(entries: &[Spanned<T>]) -> bool
 }
 
 /// Whether entries are in order from the one before a place up to the third one from there on.
-pub fn is_ordered_around<T: Copy>(entries: &[Spanned<T>], at: usize) -> bool
+pub fn is_ordered_around<T: Copy>(entries: &[Entry<T>], at: usize) -> bool
     requires { at ≤ length entries.now }
     ensures { result ≡ true → IsOrderedIn entries.now (at - 1) (at + 3) }
 {
@@ -39,7 +39,7 @@ pub fn is_ordered_around<T: Copy>(entries: &[Spanned<T>], at: usize) -> bool
 }
 
 /// Whether entries in order stay so with one more at the end.
-pub fn goes_on<T: Copy>(entries: &[Spanned<T>], entry: &Spanned<T>) -> bool
+pub fn goes_on<T: Copy>(entries: &[Entry<T>], entry: &Entry<T>) -> bool
     ensures { result ≡ true → IsOrdered entries.now → IsOrdered (entries.now ++ entry.now ∷ []) }
 {
     let len = entries.len();
@@ -47,7 +47,7 @@ pub fn goes_on<T: Copy>(entries: &[Spanned<T>], entry: &Spanned<T>) -> bool
 }
 
 /// Bounds of the entries in order from one place up to another one. The reach bounds the tags of all.
-fn reach_between<T: Copy>(entries: &[Spanned<T>], reach: Reach, from: usize, to: usize) -> Reach
+fn reach_between<T: Copy>(entries: &[Entry<T>], reach: Reach, from: usize, to: usize) -> Reach
     requires ordered { IsOrdered entries.now }
     requires reach { All (IsWithin reach) entries.now }
     requires some { from < to }
@@ -65,7 +65,7 @@ fn reach_between<T: Copy>(entries: &[Spanned<T>], reach: Reach, from: usize, to:
 
 /// Whether bounds tell that none of the entries in order from one place up to another one passes.
 fn rules_out<T: Copy, S: Seek<T>>(
-    entries: &[Spanned<T>],
+    entries: &[Entry<T>],
     reach: Reach,
     seek: &S,
     from: usize,
@@ -81,7 +81,7 @@ fn rules_out<T: Copy, S: Seek<T>>(
 }
 
 /// The place before which no entry passes, as far as the bounds of some of the first entries tell.
-fn first_left<T: Copy, S: Seek<T>>(entries: &[Spanned<T>], reach: Reach, seek: &S) -> usize
+fn first_left<T: Copy, S: Seek<T>>(entries: &[Entry<T>], reach: Reach, seek: &S) -> usize
     requires ordered { IsOrdered entries.now }
     requires reach { All (IsWithin reach) entries.now }
     ensures within { result ≤ length entries.now }
@@ -101,12 +101,7 @@ fn first_left<T: Copy, S: Seek<T>>(entries: &[Spanned<T>], reach: Reach, seek: &
 }
 
 /// The place from which on no entry passes, if bounds tell so of all from the given place on or of all but one; else the length.
-fn end_left<T: Copy, S: Seek<T>>(
-    entries: &[Spanned<T>],
-    reach: Reach,
-    seek: &S,
-    from: usize,
-) -> usize
+fn end_left<T: Copy, S: Seek<T>>(entries: &[Entry<T>], reach: Reach, seek: &S, from: usize) -> usize
     requires ordered { IsOrdered entries.now }
     requires reach { All (IsWithin reach) entries.now }
     requires from { from ≤ length entries.now }
@@ -126,7 +121,7 @@ fn end_left<T: Copy, S: Seek<T>>(
 
 /// The places among which all entries stand that pass, as far as the bounds of many entries in order tell: from the first one up to
 /// the second one.
-pub fn window<T: Copy, S: Seek<T>>(entries: &[Spanned<T>], reach: Reach, seek: &S) -> (usize, usize)
+pub fn window<T: Copy, S: Seek<T>>(entries: &[Entry<T>], reach: Reach, seek: &S) -> (usize, usize)
     requires ordered { IsOrdered entries.now }
     requires reach { All (IsWithin reach) entries.now }
     ensures { IsWindow (S.passing seek.now) entries.now result.0 result.1 }

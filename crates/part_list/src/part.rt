@@ -9,12 +9,12 @@ ghost use Rattle.part_list.specs.PartValues.{committed, discarded, has_entries, 
 ghost use Rattle.part_list.specs.Puts.{put_entries};
 ghost use Rattle.part_list.specs.Reaches.{IsWithin};
 
+use crate::entry::Entry;
 use crate::find::{first_in, last_in};
 use crate::order::{goes_on, is_ordered, is_ordered_around, window};
 use crate::put::{Put, spliced};
 use crate::reach::Reach;
 use crate::seek::Seek;
-use crate::spanned::Spanned;
 use crate::version::Version;
 use std::alloc::Global;
 use std::marker::Model;
@@ -26,9 +26,9 @@ const LOADED: usize = 128;
 /// Some entries of a list that stand together. Contracts see the entries now and next.
 #[derive(Debug, Drop)]
 pub struct Part<T: Copy> {
-    kept: ListOf<Spanned<T>>,
+    kept: ListOf<Entry<T>>,
     /// What is next, if it was edited since the last `commit` or `discard`.
-    edit: Option<ListOf<Spanned<T>>>,
+    edit: Option<ListOf<Entry<T>>>,
     /// It bounds the entries next, which are those that are looked at. Edits widen it; `truncate`, `commit` and `discard` make it
     /// as narrow as the entries are.
     reach: Reach,
@@ -38,7 +38,7 @@ pub struct Part<T: Copy> {
 
 impl<T: Copy> Model for Part<T> {
     ghost use Rattle.std.specs.Option.{is_some, unwrap_or};
-    ghost use Rattle.part_list.specs.declared.spanned.Spanned.{Spanned as Entry};
+    ghost use Rattle.part_list.specs.declared.entry.Entry.{Entry};
     ghost use Rattle.std.specs.List.{All};
     ghost use Rattle.std.specs.Prelude.{◌≡◌, true};
     ghost use Rattle.part_list.specs.Orders.{IsOrdered};
@@ -56,7 +56,7 @@ impl<T: Copy> Part<T> {
     /// The part of one entry, now and next.
     ///
     /// - `Memory`: memory ran out.
-    pub fn of(alloc: Global, entry: Spanned<T>) -> Result<Part<T>, Memory>
+    pub fn of(alloc: Global, entry: Entry<T>) -> Result<Part<T>, Memory>
         ensures { IfOk result (λ part. part
             ≡ record { now = entry ∷ []; next = entry ∷ []; edited = false }) }
     {
@@ -71,7 +71,7 @@ impl<T: Copy> Part<T> {
     }
 
     /// The part that has no entries now, and these next. It takes no memory.
-    pub fn added(alloc: Global, entries: ListOf<Spanned<T>>) -> Part<T>
+    pub fn added(alloc: Global, entries: ListOf<Entry<T>>) -> Part<T>
         ensures { result ≡ record { now = []; next = entries; edited = true } }
     {
         let reach = Reach::NONE.with_all(entries.as_slice());
@@ -85,7 +85,7 @@ impl<T: Copy> Part<T> {
     }
 
     /// The entries now, or next.
-    pub fn shown(&self, version: Version) -> &[Spanned<T>]
+    pub fn shown(&self, version: Version) -> &[Entry<T>]
         ensures { result.now ≡ shown version self.now }
     {
         match version {
@@ -95,7 +95,7 @@ impl<T: Copy> Part<T> {
     }
 
     /// The entries next.
-    pub fn next(&self) -> &[Spanned<T>]
+    pub fn next(&self) -> &[Entry<T>]
         ensures { result.now ≡ self.now.next }
     {
         match &self.edit {
@@ -143,7 +143,7 @@ impl<T: Copy> Part<T> {
     /// Puts an entry at the end, now and next.
     ///
     /// - `Memory`: memory ran out. The part stays as it was.
-    pub fn push(&mut self, entry: Spanned<T>) -> Result<(), Memory>
+    pub fn push(&mut self, entry: Entry<T>) -> Result<(), Memory>
         requires { self.old.edited ≡ false }
         ensures ok { OnOk result (self.new
             ≡ record {
@@ -260,7 +260,7 @@ impl<T: Copy> Part<T> {
     }
 
     /// Entries next that stand together, among which are all that pass.
-    pub fn candidates<S: Seek<T>>(&self, seek: &S) -> &[Spanned<T>]
+    pub fn candidates<S: Seek<T>>(&self, seek: &S) -> &[Entry<T>]
         ensures { filter (S.passing seek.now) result.now
             ≡ filter (S.passing seek.now) self.now.next }
     {

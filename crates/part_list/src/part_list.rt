@@ -7,13 +7,13 @@ ghost use Rattle.part_list.specs.Puts.{put_entries};
 
 use crate::change::{commit_all, discard_all, tidy};
 use crate::copy::copied_parts;
+use crate::entry::Entry;
 use crate::fill::{begin, edit, push};
 use crate::guides::{renew, renew_all};
 use crate::hints::Hints;
 use crate::part::Part;
 use crate::put::Put;
 use crate::reach::Reach;
-use crate::spanned::Spanned;
 use crate::spot::Spot;
 use std::alloc::Global;
 use std::marker::Model;
@@ -45,7 +45,7 @@ pub struct PartList<T: Copy> {
 }
 
 impl<T: Copy> Model for PartList<T> {
-    ghost use Rattle.part_list.specs.declared.spanned.Spanned.{Spanned as Entry};
+    ghost use Rattle.part_list.specs.declared.entry.Entry.{Entry};
     ghost use Rattle.std.specs.Prelude.{◌≡◌, false};
     ghost use Rattle.std.specs.List.{All};
     ghost use Rattle.part_list.specs.Guides.{Covers};
@@ -78,7 +78,7 @@ impl<T: Copy> PartList<T> {
     /// Puts an entry at the end, now and next. This is how a list is loaded.
     ///
     /// - `Memory`: memory ran out. The list stays as it was.
-    pub fn push(&mut self, entry: Spanned<T>) -> Result<(), Memory>
+    pub fn push(&mut self, entry: Entry<T>) -> Result<(), Memory>
         ensures now { OnOk result (now_in self.new ≡ now_in self.old ++ entry ∷ []) }
         ensures next { OnOk result (next_in self.new ≡ next_in self.old ++ entry ∷ []) }
         ensures err { OnErr result (self.new ≡ self.old) }
@@ -92,7 +92,7 @@ impl<T: Copy> PartList<T> {
     /// Puts an entry at the end next.
     ///
     /// - `Memory`: memory ran out. The list stays as it was.
-    pub fn push_next(&mut self, entry: Spanned<T>) -> Result<(), Memory>
+    pub fn push_next(&mut self, entry: Entry<T>) -> Result<(), Memory>
         ensures now { now_in self.new ≡ now_in self.old }
         ensures ok { OnOk result (next_in self.new ≡ next_in self.old ++ entry ∷ []) }
         ensures err { OnErr result (self.new ≡ self.old) }
@@ -133,7 +133,7 @@ impl<T: Copy> PartList<T> {
     /// Puts an entry next before the one at a spot, or at the end of the spot's part.
     ///
     /// - `Memory`: memory ran out. The list stays as it was.
-    pub fn insert(&mut self, spot: Spot, entry: Spanned<T>) -> Result<(), Memory>
+    pub fn insert(&mut self, spot: Spot, entry: Entry<T>) -> Result<(), Memory>
         requires { IsGap self.old.next spot }
         ensures now { now_in self.new ≡ now_in self.old }
         ensures ok { OnOk result (next_in self.new
@@ -146,7 +146,7 @@ impl<T: Copy> PartList<T> {
     /// Puts an entry next in the place of the one at a spot.
     ///
     /// - `Memory`: memory ran out. The list stays as it was.
-    pub fn replace(&mut self, spot: Spot, entry: Spanned<T>) -> Result<(), Memory>
+    pub fn replace(&mut self, spot: Spot, entry: Entry<T>) -> Result<(), Memory>
         requires { IsEntry self.old.next spot }
         ensures now { now_in self.new ≡ now_in self.old }
         ensures ok { OnOk result (next_in self.new
@@ -162,8 +162,8 @@ impl<T: Copy> PartList<T> {
     pub fn replace_and_insert(
         &mut self,
         spot: Spot,
-        entry: Spanned<T>,
-        behind: Spanned<T>,
+        entry: Entry<T>,
+        behind: Entry<T>,
     ) -> Result<(), Memory>
         requires { IsEntry self.old.next spot }
         ensures now { now_in self.new ≡ now_in self.old }

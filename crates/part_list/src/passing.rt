@@ -6,12 +6,12 @@ ghost use Rattle.part_list.specs.Guides.{Covers};
 ghost use Rattle.part_list.specs.Parts.{flat};
 ghost use Rattle.part_list.specs.PartValues.{parts_next};
 
+use crate::entry::Entry;
 use crate::find::first_in;
 use crate::guides::next_slot;
 use crate::part::Part;
 use crate::reach::Reach;
 use crate::seek::Seek;
-use crate::spanned::Spanned;
 use std::marker::Model;
 
 /// The entries next that pass and are left, in order. Contracts see the list of them.
@@ -21,7 +21,7 @@ use std::marker::Model;
 pub struct Passing<'a, T: Copy, S: Seek<T>> {
     seek: &'a S,
     /// The entries of the part that was begun.
-    entries: &'a [Spanned<T>],
+    entries: &'a [Entry<T>],
     parts: &'a [Part<T>],
     /// Bounds of blocks of the parts.
     guides: &'a [Reach],
@@ -32,7 +32,7 @@ pub struct Passing<'a, T: Copy, S: Seek<T>> {
 impl<'a, T: Copy, S: Seek<T>> Model for Passing<'a, T, S> {
     ghost use Rattle.std.specs.Prelude.{List, ◌++◌, drop};
     ghost use Rattle.std.specs.List.{filter};
-    ghost use Rattle.part_list.specs.declared.spanned.Spanned.{Spanned as Entry};
+    ghost use Rattle.part_list.specs.declared.entry.Entry.{Entry};
     ghost use Rattle.part_list.specs.Guides.{Covers};
     ghost use Rattle.part_list.specs.Parts.{flat};
     ghost use Rattle.part_list.specs.PartValues.{parts_next};
@@ -45,7 +45,7 @@ impl<'a, T: Copy, S: Seek<T>> Model for Passing<'a, T, S> {
 }
 
 /// The entries behind the one at a place.
-fn behind<T: Copy>(entries: &[Spanned<T>], at: usize) -> &[Spanned<T>]
+fn behind<T: Copy>(entries: &[Entry<T>], at: usize) -> &[Entry<T>]
     requires { at < length entries.now }
     ensures { result.now ≡ drop (at + 1) entries.now }
 {
@@ -71,13 +71,13 @@ impl<'a, T: Copy, S: Seek<T>> Passing<'a, T, S> {
 impl<'a, T: Copy, S: Seek<T>> Iterator for Passing<'a, T, S> {
     ghost use Rattle.std.specs.Iterator.{YieldsFirst, item_count};
 
-    type Item = Spanned<T>;
+    type Item = Entry<T>;
 
     ghost next_gives = { YieldsFirst (λ rest. rest) };
 
     ghost remaining = { item_count (λ rest. rest) };
 
-    fn next(&mut self) -> Option<Spanned<T>> {
+    fn next(&mut self) -> Option<Entry<T>> {
         'parts: loop {
             if let Some(at) = first_in(self.entries, self.seek) {
                 let entry = self.entries[at];

@@ -5,7 +5,7 @@ ghost use Rattle.std.specs.Option.{option_to_list};
 ghost use Rattle.part_list.specs.Parts.{spliced};
 ghost use Rattle.part_list.specs.Puts.{put_entries};
 
-use crate::spanned::Spanned;
+use crate::entry::Entry;
 use std::alloc::Global;
 use ucd_points::{ListOf, Memory};
 
@@ -13,9 +13,9 @@ use ucd_points::{ListOf, Memory};
 #[derive(Clone, Copy)]
 pub struct Put<T> {
     /// The first entry.
-    pub first: Option<Spanned<T>>,
+    pub first: Option<Entry<T>>,
     /// The one behind it.
-    pub second: Option<Spanned<T>>,
+    pub second: Option<Entry<T>>,
 }
 
 impl<T: Copy> Put<T> {
@@ -30,7 +30,7 @@ impl<T: Copy> Put<T> {
     }
 
     /// One entry.
-    pub fn one(entry: Spanned<T>) -> Put<T>
+    pub fn one(entry: Entry<T>) -> Put<T>
         ensures { put_entries result ≡ entry ∷ [] }
     {
         Put {
@@ -40,7 +40,7 @@ impl<T: Copy> Put<T> {
     }
 
     /// Two entries.
-    pub fn two(first: Spanned<T>, second: Spanned<T>) -> Put<T>
+    pub fn two(first: Entry<T>, second: Entry<T>) -> Put<T>
         ensures { put_entries result ≡ first ∷ second ∷ [] }
     {
         Put {
@@ -53,10 +53,7 @@ impl<T: Copy> Put<T> {
 /// Puts an entry, if there is one, at the end.
 ///
 /// - `Memory`: memory ran out.
-fn push_some<T: Copy>(
-    entries: &mut Vec<Spanned<T>>,
-    entry: Option<Spanned<T>>,
-) -> Result<(), Memory>
+fn push_some<T: Copy>(entries: &mut Vec<Entry<T>>, entry: Option<Entry<T>>) -> Result<(), Memory>
     ensures { OnOk result (entries.new.items ≡ entries.old.items ++ option_to_list entry) }
 {
     if let Some(entry) = entry {
@@ -70,11 +67,11 @@ fn push_some<T: Copy>(
 /// - `Memory`: memory ran out.
 pub fn spliced<T: Copy>(
     alloc: Global,
-    old: &[Spanned<T>],
+    old: &[Entry<T>],
     at: usize,
     removed: usize,
     put: Put<T>,
-) -> Result<ListOf<Spanned<T>>, Memory>
+) -> Result<ListOf<Entry<T>>, Memory>
     requires { at + removed ≤ length old.now }
     ensures { IfOk result (λ new. new ≡ spliced old.now at removed (put_entries put)) }
 {

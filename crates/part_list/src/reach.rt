@@ -4,7 +4,7 @@ ghost use Rattle.std.specs.List.{All};
 ghost use Rattle.std.specs.Option.{option_to_list};
 ghost use Rattle.part_list.specs.Reaches.{IsWithin, IsWider};
 
-use crate::spanned::Spanned;
+use crate::entry::Entry;
 
 /// Bounds of the code points that some entries speak of, as numbers, and of their tags. They may be wider than the entries
 /// need.
@@ -30,7 +30,7 @@ impl Reach {
     };
 
     /// The reach with one more entry.
-    pub fn with<T: Copy>(self, entry: &Spanned<T>) -> Reach
+    pub fn with<T: Copy>(self, entry: &Entry<T>) -> Reach
         ensures entry { IsWithin result entry.now }
         ensures wider { IsWider self result }
     {
@@ -56,7 +56,7 @@ impl Reach {
     }
 
     /// The reach with one more entry, if there is one.
-    pub fn with_some<T: Copy>(self, entry: Option<Spanned<T>>) -> Reach
+    pub fn with_some<T: Copy>(self, entry: Option<Entry<T>>) -> Reach
         ensures entry { All (IsWithin result) (option_to_list entry) }
         ensures wider { IsWider self result }
     {
@@ -67,7 +67,7 @@ impl Reach {
     }
 
     /// The reach with more entries.
-    pub fn with_all<T: Copy>(self, entries: &[Spanned<T>]) -> Reach
+    pub fn with_all<T: Copy>(self, entries: &[Entry<T>]) -> Reach
         ensures entries { All (IsWithin result) entries.now }
         ensures wider { IsWider self result }
     {

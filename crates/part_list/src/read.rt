@@ -7,17 +7,17 @@ ghost use Rattle.part_list.specs.Finds.{FirstAt, IsBefore, LastAt, StandsAt};
 ghost use Rattle.part_list.specs.Parts.{IsEntry, next_in, now_in, part_at, place};
 
 use crate::entries::Entries;
+use crate::entry::Entry;
 use crate::part_list::PartList;
 use crate::passing::Passing;
 use crate::search::{first_spot, first_spot_behind, last_spot, place_of, spot_at, spot_before};
 use crate::seek::Seek;
-use crate::spanned::Spanned;
 use crate::spot::Spot;
 use crate::version::Version;
 
 impl<T: Copy> PartList<T> {
     /// The entry next at a spot.
-    pub fn get(&self, spot: Spot) -> Spanned<T>
+    pub fn get(&self, spot: Spot) -> Entry<T>
         requires { IsEntry self.now.next spot }
         ensures { result ≡ slice_index_or (next_in self.now) (place self.now.next spot) result }
     {
@@ -97,7 +97,7 @@ impl<T: Copy> PartList<T> {
     }
 
     /// The entries now of a part, counted from 0.
-    pub fn part(&self, slot: usize) -> &[Spanned<T>]
+    pub fn part(&self, slot: usize) -> &[Entry<T>]
         requires { slot < length self.now.now }
         ensures { result.now ≡ part_at self.now.now slot }
     {
@@ -106,7 +106,7 @@ impl<T: Copy> PartList<T> {
 
     /// The entries next of a part that was edited since the last `commit` or `discard`; `None` of one that was not, which
     /// has the entries next that it has now.
-    pub fn edited_part(&self, slot: usize) -> Option<&[Spanned<T>]>
+    pub fn edited_part(&self, slot: usize) -> Option<&[Entry<T>]>
         requires { slot < length self.now.now }
         ensures { MatchOption result (part_at self.now.next slot ≡ part_at self.now.now slot)
             (λ entries. entries.now ≡ part_at self.now.next slot) }

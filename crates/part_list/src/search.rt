@@ -7,12 +7,12 @@ ghost use Rattle.part_list.specs.Guides.{Covers};
 ghost use Rattle.part_list.specs.Parts.{IsEntry, flat, place};
 ghost use Rattle.part_list.specs.PartValues.{parts_next};
 
+use crate::entry::Entry;
 use crate::find::first_in;
 use crate::guides::next_slot;
 use crate::part::Part;
 use crate::reach::Reach;
 use crate::seek::Seek;
-use crate::spanned::Spanned;
 use crate::spot::Spot;
 
 /// The spot of the first entry next that passes. No entry of the parts before the one at `from` passes. The guides bound blocks of the
@@ -39,7 +39,7 @@ pub fn first_spot<T: Copy, S: Seek<T>>(
 }
 
 /// The entries from a place on.
-fn from_place<T: Copy>(entries: &[Spanned<T>], at: usize) -> &[Spanned<T>]
+fn from_place<T: Copy>(entries: &[Entry<T>], at: usize) -> &[Entry<T>]
     requires { at ≤ length entries.now }
     ensures { result.now ≡ drop at entries.now }
 {

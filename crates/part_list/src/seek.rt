@@ -4,10 +4,10 @@ ghost use Rattle.std.specs.Prelude.{◌≡◌, Bool, true};
 ghost use Rattle.std.specs.Option.{IfSome};
 ghost use Rattle.part_list.specs.Covers.{AllMeet};
 ghost use Rattle.part_list.specs.Reaches.{Skips};
-ghost use Rattle.part_list.specs.declared.spanned.Spanned.{Spanned as Entry};
+ghost use Rattle.part_list.specs.declared.entry.Entry.{Entry};
 
+use crate::entry::Entry;
 use crate::reach::Reach;
-use crate::spanned::Spanned;
 
 /// A test of entries, which can tell of most parts by their bounds alone that no entry there passes.
 pub trait Seek<T: Copy> {
@@ -15,7 +15,7 @@ pub trait Seek<T: Copy> {
     ghost passing: { Self → Entry T → Bool };
 
     /// Whether an entry passes.
-    fn passes(&self, entry: &Spanned<T>) -> bool
+    fn passes(&self, entry: &Entry<T>) -> bool
         ensures { result ≡ passing self.now entry.now };
 
     /// Whether it is certain that no entry within these bounds passes.

@@ -7,12 +7,12 @@ ghost use Rattle.part_list.specs.Parts.{flat};
 ghost use Rattle.part_list.specs.PartValues.{parts_now, parts_next};
 ghost use Rattle.part_list.specs.Puts.{put_entries};
 ghost use Rattle.part_list.specs.SeenNumbers.{Grows, IsKnown, may_have};
-ghost use Rattle.part_list.specs.declared.spanned.Spanned.{Spanned as Entry};
+ghost use Rattle.part_list.specs.declared.entry.Entry.{Entry};
 
+use crate::entry::Entry;
 use crate::part::Part;
 use crate::put::Put;
 use crate::seek::Seek;
-use crate::spanned::Spanned;
 use crate::version::Version;
 use std::alloc::Global;
 use std::collections::BTreeSet;
@@ -104,7 +104,7 @@ impl SeenNumbers {
     }
 
     /// Puts the tags of entries in.
-    fn put_all<T: Copy>(&mut self, entries: &[Spanned<T>])
+    fn put_all<T: Copy>(&mut self, entries: &[Entry<T>])
         ensures known { All (IsKnown self.new) entries.now }
         ensures grows { Grows self.old self.new }
     {
@@ -114,7 +114,7 @@ impl SeenNumbers {
     }
 
     /// Puts the tag of an entry in, if there is one.
-    fn put_some<T: Copy>(&mut self, entry: Option<Spanned<T>>)
+    fn put_some<T: Copy>(&mut self, entry: Option<Entry<T>>)
         ensures known { All (IsKnown self.new) (option_to_list entry) }
         ensures grows { Grows self.old self.new }
     {

@@ -6,10 +6,10 @@ use Rattle.std.proofs.lemmas.List.Edits.{length-insert, length-remove}
 use Rattle.std.proofs.lemmas.List.Elements.{All-append, All-cons, All-drop, All-push, All-take}
 use Rattle.ucd_points.specs.declared.files.SourceFile.{SourceFile}
 use Rattle.part_list.specs.Parts.{PartLists, now_in, next_in}
-use Rattle.part_list.specs.declared.spanned.Spanned.{Spanned}
+use Rattle.part_list.specs.declared.entry.Entry.{Entry}
 use Rattle.release_rows.specs.Back.{AreCopies, Grew}
 use Rattle.release_rows.specs.StoredItems.{IsKeptFile, IsStored, stored_at}
-use Rattle.release_rows.specs.declared.stretch.Stretch.{Stretch}
+use Rattle.release_rows.specs.declared.stored_item.StoredItem.{StoredItem}
 use Rattle.release_rows.proofs.Arena.{all_still_stored, items_kept}
 use Rattle.release_rows.proofs.Edited.{kept_edited}
 
@@ -51,7 +51,7 @@ longer xs ys at e within is =
     omega arith
 
 -- an entry next is put in, and the text grew
-pub kept_inserted : (file : SourceFile) (text new : List ℕ) (added later at : ℕ) (entry : Spanned Stretch) (old next : PartLists (Spanned Stretch)) → Grew text new → IsKeptFile file text added old → now_in next ≡ now_in old → next_in next ≡ insert (next_in old) at entry → at ≤ length (next_in old) → IsStored file new entry → later ≡ added + 1 → later < 2 ^ 32 → IsKeptFile file new later next
+pub kept_inserted : (file : SourceFile) (text new : List ℕ) (added later at : ℕ) (entry : Entry StoredItem) (old next : PartLists (Entry StoredItem)) → Grew text new → IsKeptFile file text added old → now_in next ≡ now_in old → next_in next ≡ insert (next_in old) at entry → at ≤ length (next_in old) → IsStored file new entry → later ≡ added + 1 → later < 2 ^ 32 → IsKeptFile file new later next
 kept_inserted file text new added later at entry old next grew kept now is within one rises below =
     let more = grew.0 in
     let P = IsStored file (text ++ more) in
@@ -69,13 +69,13 @@ kept_inserted file text new added later at entry old next grew kept now is withi
 pub grew_more : (first second third : List ℕ) → Grew first second → Grew second third → Grew first third
 grew_more first second third one two = (one.0 ++ two.0, two.1 ∙ ap (λ (l : List ℕ). l ++ two.0) one.1 ∙ append_assoc first one.0 two.0)
 
-pub copies_kept : (file : SourceFile) (from text new : List ℕ) (entries copies : List (Spanned Stretch)) → Grew text new → AreCopies file from entries text copies → AreCopies file from entries new copies
+pub copies_kept : (file : SourceFile) (from text new : List ℕ) (entries copies : List (Entry StoredItem)) → Grew text new → AreCopies file from entries text copies → AreCopies file from entries new copies
 copies_kept file from text new entries copies grew are = subst (λ (t : List ℕ). AreCopies file from entries t copies) (sym grew.1) (record {
   stored = all_still_stored file text grew.0 copies are.stored;
   items = items_kept file text grew.0 copies are.stored ∙ are.items;
 })
 
-pub copied_more : (file : SourceFile) (from text new : List ℕ) (entries copies after : List (Spanned Stretch)) (d copy : Spanned Stretch) (done : ℕ) → Grew text new → AreCopies file from (take done entries) text copies → done < length entries → IsStored file new copy → stored_at file new copy ≡ stored_at file from (get_or entries done d) → after ≡ copies ++ copy ∷ [] → AreCopies file from (take (done + 1) entries) new after
+pub copied_more : (file : SourceFile) (from text new : List ℕ) (entries copies after : List (Entry StoredItem)) (d copy : Entry StoredItem) (done : ℕ) → Grew text new → AreCopies file from (take done entries) text copies → done < length entries → IsStored file new copy → stored_at file new copy ≡ stored_at file from (get_or entries done d) → after ≡ copies ++ copy ∷ [] → AreCopies file from (take (done + 1) entries) new after
 copied_more file from text new entries copies after d copy done grew are lt stored same put =
     let kept = copies_kept file from text new (take done entries) copies grew are in
     let st = stored_at file from in

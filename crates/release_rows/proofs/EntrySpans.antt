@@ -7,11 +7,11 @@ use Rattle.ucd_facts.specs.declared.row.Row.TheVariants.{Unit as DataLine, Value
 use Rattle.source_rows.specs.KeyNames.{has_code}
 use Rattle.source_rows.specs.Keys.{row_span}
 use Rattle.source_rows.specs.Laws.{RowsAreOk, RowsAreRead}
-use Rattle.part_list.specs.declared.spanned.Spanned.{Spanned}
+use Rattle.part_list.specs.declared.entry.Entry.{Entry}
 use Rattle.release_rows.specs.Operations.{row_passes, row_spans, spans_of}
 use Rattle.release_rows.specs.FileItems.{FileItem, SourceFile, Row}
 use Rattle.release_rows.specs.StoredItems.{HasSpan, IsStored, content_at, item_at}
-use Rattle.release_rows.specs.declared.stretch.Stretch.{Stretch}
+use Rattle.release_rows.specs.declared.stored_item.StoredItem.{StoredItem}
 use Rattle.release_rows.proofs.Seeking.{StoredAs, stored_as}
 
 abbrev Spans : ℕ → ℕ → List Bounds → Type 0
@@ -61,10 +61,10 @@ none_by : (file : SourceFile) (content : List ℕ) (o : Option Row) → RowsAreR
 none_by file content None read ok st some h = absurd cc
 none_by file content (Some row) read ok st some h = no_spans file row (row_ok file content row read ok st) h
 
-pub stored_spans : (file : SourceFile) (text : List ℕ) (e : Spanned Stretch) → RowsAreRead → RowsAreOk → IsStored file text e → is_some (item_at file text e.item).row ≡ true → has_code file ≡ true → Spans e.code e.last (spans_of (item_at file text e.item).row)
+pub stored_spans : (file : SourceFile) (text : List ℕ) (e : Entry StoredItem) → RowsAreRead → RowsAreOk → IsStored file text e → is_some (item_at file text e.item).row ≡ true → has_code file ≡ true → Spans e.code e.last (spans_of (item_at file text e.item).row)
 stored_spans file text e read ok h some code = spans_by file (content_at text e.item) e.code e.last (item_at file text e.item).row read ok (stored_as file text e h) h.span some code
 
-pub stored_no_spans : (file : SourceFile) (text : List ℕ) (e : Spanned Stretch) → RowsAreRead → RowsAreOk → IsStored file text e → is_some (item_at file text e.item).row ≡ true → has_code file ≡ false → spans_of (item_at file text e.item).row ≡ []
+pub stored_no_spans : (file : SourceFile) (text : List ℕ) (e : Entry StoredItem) → RowsAreRead → RowsAreOk → IsStored file text e → is_some (item_at file text e.item).row ≡ true → has_code file ≡ false → spans_of (item_at file text e.item).row ≡ []
 stored_no_spans file text e read ok h some code = none_by file (content_at text e.item) (item_at file text e.item).row read ok (stored_as file text e h) some code
 
 pub has_row : (p : Row → Bool) (item : FileItem) → row_passes p item ≡ true → is_some item.row ≡ true

@@ -6,7 +6,7 @@ use Rattle.std.proofs.lemmas.List.Sums.{passes_at_first}
 use Rattle.source_rows.specs.declared.key.Key.{Key}
 use Rattle.part_list.specs.Parts.{flat, place}
 use Rattle.part_list.specs.SpotLaws.{place-lt}
-use Rattle.part_list.specs.declared.spanned.Spanned.{Spanned}
+use Rattle.part_list.specs.declared.entry.Entry.{Entry}
 use Rattle.part_list.specs.declared.spot.Spot.{Spot}
 use Rattle.release_rows.specs.Finding.{FindsRow, FindsSpot, IsFirst, items_of}
 use Rattle.release_rows.specs.Keys.{same_key}
@@ -17,11 +17,11 @@ use Rattle.release_rows.specs.StoredItems.{stored_at}
 use Rattle.release_rows.specs.declared.key_rule.KeyRule.{KeyRule}
 use Rattle.release_rows.specs.declared.key_rule.KeyRule.TheVariants.{K1, K2, K4}
 use Rattle.release_rows.specs.declared.operation.Op.TheVariants.{Change, Withdraw}
-use Rattle.release_rows.specs.declared.stretch.Stretch.{Stretch}
+use Rattle.release_rows.specs.declared.stored_item.StoredItem.{StoredItem}
 use Rattle.release_rows.proofs.Edited.{sought_own}
 use Rattle.release_rows.proofs.OneRow.{OneKey, has_key_once, once_kept, once_out, once_set, one_spans, same_key_once}
 
-module _ (file : SourceFile) (text : List ℕ) (parts : List (List (Spanned Stretch))) (spot : Spot) (old : Spanned Stretch) (is : old ≡ get_or (flat parts) (place parts spot) old) where
+module _ (file : SourceFile) (text : List ℕ) (parts : List (List (Entry StoredItem))) (spot : Spot) (old : Entry StoredItem) (is : old ≡ get_or (flat parts) (place parts spot) old) where
   at_first : (p : Row → Bool) → IsFirst spot p (items_of file text parts) parts → get_or (items_of file text parts) (position_or_len (row_passes p) (items_of file text parts)) (stored_at file text old) ≡ stored_at file text old
   at_first p first =
       ap (λ (k : ℕ). get_or (items_of file text parts) k (stored_at file text old)) first.1
@@ -69,16 +69,16 @@ module _ (file : SourceFile) (text : List ℕ) (parts : List (List (Spanned Stre
 
 -- ---- refusals
 
-pub finds_spot : (r : Result Spot KeyRule) (file : SourceFile) (row : Row) (text : List ℕ) (s : Sought) (parts : List (List (Spanned Stretch))) → IsSoughtRow file row text s → ((other : Row) → IsSoughtRow s.file other s.text s → FindsSpot r s.file s.text other parts) → FindsSpot r file text row parts
+pub finds_spot : (r : Result Spot KeyRule) (file : SourceFile) (row : Row) (text : List ℕ) (s : Sought) (parts : List (List (Entry StoredItem))) → IsSoughtRow file row text s → ((other : Row) → IsSoughtRow s.file other s.text s → FindsSpot r s.file s.text other parts) → FindsSpot r file text row parts
 finds_spot r file row text s parts h found =
     subst (λ (f : SourceFile). FindsSpot r f text row parts) h.file_is (subst (λ (t : List ℕ). FindsSpot r s.file t row parts) h.text_is (found row (sought_own file row text s h)))
 
-pub rule_of_change : (rule : KeyRule) (file : SourceFile) (row : Row) (text bytes : List ℕ) (parts : List (List (Spanned Stretch))) → FindsSpot (Err rule) file text row parts → edited (items_of file text parts) (Change file row bytes) ≡ Err rule
+pub rule_of_change : (rule : KeyRule) (file : SourceFile) (row : Row) (text bytes : List ℕ) (parts : List (List (Entry StoredItem))) → FindsSpot (Err rule) file text row parts → edited (items_of file text parts) (Change file row bytes) ≡ Err rule
 unfolding edited
 rule_of_change K1 file row text bytes parts h = absurd h
 rule_of_change K2 file row text bytes parts h = rw h refl
 rule_of_change K4 file row text bytes parts h = rw (h.0, h.1) refl
 
-pub rule_of_withdrawal : (rule : KeyRule) (file : SourceFile) (key : Key) (text : List ℕ) (parts : List (List (Spanned Stretch))) → FindsRow (Err rule) (has_key file key) (items_of file text parts) parts → edited (items_of file text parts) (Withdraw file key) ≡ Err rule
+pub rule_of_withdrawal : (rule : KeyRule) (file : SourceFile) (key : Key) (text : List ℕ) (parts : List (List (Entry StoredItem))) → FindsRow (Err rule) (has_key file key) (items_of file text parts) parts → edited (items_of file text parts) (Withdraw file key) ≡ Err rule
 unfolding edited
 rule_of_withdrawal rule file key text parts h = rw (h.0, h.1) refl

@@ -4,7 +4,7 @@ use Rattle.std.specs.List.{All, list_any}
 use Rattle.std.proofs.lemmas.Bool.{or_parts}
 use Rattle.std.proofs.lemmas.List.Elements.{All-weaker}
 use Rattle.source_rows.specs.KeyNames.{ContentsHaveKeys}
-use Rattle.part_list.specs.declared.spanned.Spanned.{Spanned}
+use Rattle.part_list.specs.declared.entry.Entry.{Entry}
 use Rattle.part_list.specs.declared.spot.Spot.{Spot}
 use Rattle.part_list.specs.Parts.{flat}
 use Rattle.part_list.specs.Finds.{FirstAt}
@@ -16,13 +16,13 @@ use Rattle.release_rows.specs.Operations.{holds_row, overlaps_another, row_passe
 use Rattle.release_rows.specs.Searches.{Sought, IsSoughtRow, entry_passes, meets_another, starts_alike, with_test}
 use Rattle.release_rows.specs.StoredItems.{IsStored, stored_at}
 use Rattle.release_rows.specs.declared.search.Test.TheVariants.{SameKey, OverlapsAnother}
-use Rattle.release_rows.specs.declared.stretch.Stretch.{Stretch}
+use Rattle.release_rows.specs.declared.stored_item.StoredItem.{StoredItem}
 use Rattle.release_rows.proofs.GapPlaces.{nothing}
 use Rattle.release_rows.proofs.Moved.{any_moved, first_moved}
 use Rattle.release_rows.proofs.Seeking.{another_found, key_found}
 
 -- one is found exactly where some entry passes
-pub found_any : (p : Spanned Stretch → Bool) (parts : List (List (Spanned Stretch))) (o : Option Spot) → FirstAt o p parts → list_any p (flat parts) ≡ is_some o
+pub found_any : (p : Entry StoredItem → Bool) (parts : List (List (Entry StoredItem))) (o : Option Spot) → FirstAt o p parts → list_any p (flat parts) ≡ is_some o
 found_any p parts None h = first_none p parts h
 found_any p parts (Some spot) h = first_some p parts spot nothing h
 
@@ -37,7 +37,7 @@ another_is file row (item ∷ items) h =
     by None e = refl
     by (Some r) e = rw e refl
 
-module _ (s : Sought) (row : Row) (parts : List (List (Spanned Stretch))) (law : ContentsHaveKeys) (is : IsSoughtRow s.file row s.text s) (all : All (IsStored s.file s.text) (flat parts)) where
+module _ (s : Sought) (row : Row) (parts : List (List (Entry StoredItem))) (law : ContentsHaveKeys) (is : IsSoughtRow s.file row s.text s) (all : All (IsStored s.file s.text) (flat parts)) where
   pub all_keys : All (λ e. starts_alike s e ≡ row_passes (same_key s.file row) (stored_at s.file s.text e)) (flat parts)
   all_keys = All-weaker (IsStored s.file s.text) (λ e. starts_alike s e ≡ row_passes (same_key s.file row) (stored_at s.file s.text e)) (λ e h. key_found s.file s.text e row s law is h) (flat parts) all
 

@@ -7,7 +7,7 @@ use Rattle.std.proofs.lemmas.List.Folds.{list_any-from_Any, list_any_none}
 use Rattle.std.proofs.lemmas.List.Sums.{prefix_len_passes}
 use Rattle.std.proofs.lemmas.Bool.{not-true}
 use Rattle.ucd_lines.specs.declared.item.Ending.TheVariants.{Lf}
-use Rattle.part_list.specs.declared.spanned.Spanned.{Spanned}
+use Rattle.part_list.specs.declared.entry.Entry.{Entry}
 use Rattle.part_list.specs.declared.spot.Spot.{Spot}
 use Rattle.part_list.specs.Parts.{flat, place}
 use Rattle.part_list.specs.Finds.{FirstAt, IsBefore, LastAt}
@@ -23,12 +23,12 @@ use Rattle.release_rows.specs.Searches.{Sought, IsSoughtRow, comes_behind, is_al
 use Rattle.release_rows.specs.StoredItems.{IsStored, stored_at}
 use Rattle.release_rows.specs.declared.edits.Gap.TheVariants.{Front, Behind, Only}
 use Rattle.release_rows.specs.Briefs.{no_brief}
-use Rattle.release_rows.specs.declared.stretch.Stretch.{Stretch}
+use Rattle.release_rows.specs.declared.stored_item.StoredItem.{StoredItem}
 use Rattle.release_rows.proofs.Noting.{alike_nowhere, follows_nowhere}
 use Rattle.release_rows.proofs.Moved.{any_moved, first_moved, last_moved}
 use Rattle.release_rows.proofs.Seeking.{alike_found, behind_found}
 
-pub nothing : Spanned Stretch
+pub nothing : Entry StoredItem
 nothing = record { code = 0; last = 0; tag = 0; item = record { start = 0; len = 0; ending = Lf; lines = 1; brief = no_brief } }
 
 last_some : {A : Type 0} (p : A → Bool) (parts : List (List A)) (spot : Spot) (d : A) → LastAt (Some spot) p parts → list_any p (flat parts) ≡ true
@@ -61,7 +61,7 @@ end_only parts h =
     let empty : length (flat parts) ≡ 0 = sym h ∙ no_front (reverse (flat parts)) in
     (empty, empty)
 
-module _ (s : Sought) (row : Row) (parts : List (List (Spanned Stretch))) (law : ContentsHaveKeys) (is : IsSoughtRow s.file row s.text s) (all : All (IsStored s.file s.text) (flat parts)) where
+module _ (s : Sought) (row : Row) (parts : List (List (Entry StoredItem))) (law : ContentsHaveKeys) (is : IsSoughtRow s.file row s.text s) (all : All (IsStored s.file s.text) (flat parts)) where
   all_follow : All (λ e. comes_behind s e ≡ row_passes (follows s.file row) (stored_at s.file s.text e)) (flat parts)
   all_follow = All-weaker (IsStored s.file s.text) (λ e. comes_behind s e ≡ row_passes (follows s.file row) (stored_at s.file s.text e)) (λ e h. behind_found s.file s.text e row s law is h) (flat parts) all
 
@@ -134,6 +134,6 @@ module _ (s : Sought) (row : Row) (parts : List (List (Spanned Stretch))) (law :
   pub missing_only : is_missing_in s.file row ≡ true → LastAt None (is_alike s) parts → FirstAt None (λ e. true) parts → IsGapAt Only (place_in s.file row (map (stored_at s.file s.text) (flat parts))) parts
   missing_only missing other h = (empty (flat parts) (first_none (λ e. true) parts h), place_first missing other)
     where
-      empty : (xs : List (Spanned Stretch)) → list_any (λ x. true) xs ≡ false → length xs ≡ 0
+      empty : (xs : List (Entry StoredItem)) → list_any (λ x. true) xs ≡ false → length xs ≡ 0
       empty [] e = refl
       empty (x ∷ xs) e = absurd cc

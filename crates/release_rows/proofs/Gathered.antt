@@ -7,11 +7,11 @@ use Rattle.std.proofs.lemmas.List.Elements.{All-nil, All-cons, All-append, All-h
 use Rattle.ucd_points.specs.Lines.{items_of, joined}
 use Rattle.ucd_points.specs.declared.files.SourceFile.TheVariants.{UnicodeData, PropList, Scripts, WordBreakProperty, CompositionExclusions, CaseFolding, SpecialCasing, PropertyAliases, PropertyValueAliases}
 use Rattle.part_list.specs.Parts.{PartLists, now_in, next_in}
-use Rattle.part_list.specs.declared.spanned.Spanned.{Spanned}
+use Rattle.part_list.specs.declared.entry.Entry.{Entry}
 use Rattle.source_rows.specs.Keys.{row_span, key_names, same_texts}
 use Rattle.release_rows.specs.Chains.{IsOrderedPlace, placed_extent, places_meet}
 use Rattle.release_rows.specs.Cuts.{Ascends}
-use Rattle.release_rows.specs.Entries.{EntersSome}
+use Rattle.release_rows.specs.LoadedRows.{EntersSome}
 use Rattle.release_rows.specs.Extents.{Extent, meets}
 use Rattle.release_rows.specs.FileItems.{FileItem, onto_rows, rows_in, SourceFile, Row}
 use Rattle.release_rows.specs.Gathered.{AreGathered, placed_of}
@@ -21,9 +21,9 @@ use Rattle.release_rows.specs.Loading.{file_item, file_or_fault, first_fault}
 use Rattle.release_rows.specs.Pieces.{Lines, pieces}
 use Rattle.release_rows.specs.Releases.{AreKeptBelow}
 use Rattle.release_rows.specs.StoredItems.{stored_at, IsStored}
-use Rattle.release_rows.specs.declared.entry.Entry.{Entry}
+use Rattle.release_rows.specs.declared.loaded_row.LoadedRow.{LoadedRow}
 use Rattle.release_rows.specs.declared.keyed_extent.KeyedExtent.{KeyedExtent}
-use Rattle.release_rows.specs.declared.stretch.Stretch.{Stretch}
+use Rattle.release_rows.specs.declared.stored_item.StoredItem.{StoredItem}
 use Rattle.release_rows.proofs.Kept.{items_join}
 use Rattle.release_rows.proofs.Loads.{no_faults}
 use Rattle.release_rows.proofs.Operations.{AllRead, are_kept}
@@ -32,7 +32,7 @@ use Rattle.release_rows.proofs.RowsApart.{clashes, all_apart}
 
 -- ---- one more row
 
-pub gathers : (file : SourceFile) (rows : List Row) (row : Option Row) (placed new : List KeyedExtent) (entry : Option Entry) → AreGathered file rows placed → new ≡ placed ++ placed_of entry → EntersSome file entry row → AreGathered file (rows ++ onto_rows row []) new
+pub gathers : (file : SourceFile) (rows : List Row) (row : Option Row) (placed new : List KeyedExtent) (entry : Option LoadedRow) → AreGathered file rows placed → new ≡ placed ++ placed_of entry → EntersSome file entry row → AreGathered file (rows ++ onto_rows row []) new
 gathers file rows None placed new None h put enters = record {
   same = rw (put, append-nil placed, append-nil rows) h.same;
   ordered = rw (put, append-nil placed) h.ordered;
@@ -91,7 +91,7 @@ extents_apart (r ∷ rows) apart = (none_of r rows apart.0, extents_apart rows a
 
 -- ---- the file
 
-all_read : (file : SourceFile) (text : List ℕ) (es : List (Spanned Stretch)) → All (IsStored file text) es → AllRead file (map (stored_at file text) es)
+all_read : (file : SourceFile) (text : List ℕ) (es : List (Entry StoredItem)) → All (IsStored file text) es → AllRead file (map (stored_at file text) es)
 all_read file text [] all = tt
 all_read file text (e ∷ es) all = ((All-head (IsStored file text) e es all).item.is_read, all_read file text es (All-tail (IsStored file text) e es all))
 
@@ -107,7 +107,7 @@ no_order PropertyAliases rows other = tt
 no_order PropertyValueAliases rows other = tt
 
 -- the items of all pieces, whose rows do not meet
-all_gathered : (file : SourceFile) (text : List ℕ) (es : List (Spanned Stretch)) (rows : List KeyedExtent) → file ≢ UnicodeData → All (IsStored file text) es → AreGathered file (rows_in (map (stored_at file text) es)) rows → IsDistinct places_meet rows → map (stored_at file text) es ≡ map (file_item file) (pieces file (items_of text)) → file_or_fault file text ≡ Ok (map (stored_at file text) es)
+all_gathered : (file : SourceFile) (text : List ℕ) (es : List (Entry StoredItem)) (rows : List KeyedExtent) → file ≢ UnicodeData → All (IsStored file text) es → AreGathered file (rows_in (map (stored_at file text) es)) rows → IsDistinct places_meet rows → map (stored_at file text) es ≡ map (file_item file) (pieces file (items_of text)) → file_or_fault file text ≡ Ok (map (stored_at file text) es)
 unfolding file_or_fault
 all_gathered file text es rows other all gathered apart whole =
     let is = map (stored_at file text) es in
@@ -118,7 +118,7 @@ all_gathered file text es rows other all gathered apart whole =
     rw none (ap (λ (items : List FileItem). Ok items) (sym whole))
 
 -- the items that are kept once no piece is left
-pub are_loaded : (file : SourceFile) (text : List ℕ) (above : List FileItem) (items : PartLists (Spanned Stretch)) (rows : List KeyedExtent) (left : List Lines) → file ≢ UnicodeData → map (stored_at file text) (now_in items) ≡ above → next_in items ≡ now_in items → All (IsStored file text) (now_in items) → length (now_in items) < 2 ^ 32 → AreGathered file (rows_in above) rows → IsDistinct places_meet rows → above ++ map (file_item file) left ≡ map (file_item file) (pieces file (items_of text)) → left ≡ [] → joined (items_of text) ≡ text → IsLoaded file text items
+pub are_loaded : (file : SourceFile) (text : List ℕ) (above : List FileItem) (items : PartLists (Entry StoredItem)) (rows : List KeyedExtent) (left : List Lines) → file ≢ UnicodeData → map (stored_at file text) (now_in items) ≡ above → next_in items ≡ now_in items → All (IsStored file text) (now_in items) → length (now_in items) < 2 ^ 32 → AreGathered file (rows_in above) rows → IsDistinct places_meet rows → above ++ map (file_item file) left ≡ map (file_item file) (pieces file (items_of text)) → left ≡ [] → joined (items_of text) ≡ text → IsLoaded file text items
 are_loaded file text above items rows left other is same each few gathered apart whole none lines =
     let all : above ≡ map (file_item file) (pieces file (items_of text)) = sym (append-nil above) ∙ ap (λ (ps : List Lines). above ++ map (file_item file) ps) (sym none) ∙ whole in
     let answer = all_gathered file text (now_in items) rows other each (subst (λ (items : List FileItem). AreGathered file (rows_in items) rows) (sym is) gathered) apart (is ∙ all) in

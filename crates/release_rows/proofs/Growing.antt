@@ -9,12 +9,12 @@ use Rattle.release_rows.specs.Extents.{Extent, conflict_with}
 use Rattle.source_rows.specs.Keys.{row_span}
 use Rattle.release_rows.specs.Keys.{extent_in, falls_back, is_back, key_rule, last_start}
 use Rattle.release_rows.specs.FileItems.{FileItem, onto_rows, rows_in, lines_of, SourceFile, Row}
-use Rattle.release_rows.specs.Entries.{EntersSome}
+use Rattle.release_rows.specs.LoadedRows.{EntersSome}
 use Rattle.release_rows.specs.Loading.{rule_by}
 use Rattle.release_rows.specs.Places.{extent_at}
 use Rattle.release_rows.specs.Progress.{HoldsRows, TakesRow, start_of_entry}
 use Rattle.release_rows.specs.declared.conflict.Conflict.{Conflict}
-use Rattle.release_rows.specs.declared.entry.Entry.{Entry}
+use Rattle.release_rows.specs.declared.loaded_row.LoadedRow.{LoadedRow}
 use Rattle.release_rows.proofs.RowRules.{back_is, extent_is, no_conflict, rule_told}
 
 -- the first code point of the last row, with one more row or none
@@ -22,7 +22,7 @@ abbrev start_with : Option ℕ → Option Row → Option ℕ
 start_with before None = before
 start_with before (Some row) = Some (row_span row).lo
 
-start_is : (file : SourceFile) (before : Option ℕ) (entry : Option Entry) (row : Option Row) → EntersSome file entry row → start_of_entry before entry ≡ start_with before row
+start_is : (file : SourceFile) (before : Option ℕ) (entry : Option LoadedRow) (row : Option Row) → EntersSome file entry row → start_of_entry before entry ≡ start_with before row
 start_is file before None None h = refl
 start_is file before (Some e) (Some row) h = ap (λ (n : ℕ). Some n) h.code
 start_is file before None (Some row) h = absurd h
@@ -40,7 +40,7 @@ start_grows : (rows : List Row) (row : Option Row) → start_with (last_start ro
 start_grows rows None = ap last_start (sym (append-nil rows))
 start_grows rows (Some row) = sym (start_of rows row)
 
-pub start_after : (file : SourceFile) (items : List FileItem) (item : FileItem) (start : Option ℕ) (entry : Option Entry) → start ≡ last_start (rows_in items) → EntersSome file entry item.row → start_of_entry start entry ≡ last_start (rows_in (items ++ item ∷ []))
+pub start_after : (file : SourceFile) (items : List FileItem) (item : FileItem) (start : Option ℕ) (entry : Option LoadedRow) → start ≡ last_start (rows_in items) → EntersSome file entry item.row → start_of_entry start entry ≡ last_start (rows_in (items ++ item ∷ []))
 start_after file items item start entry same enters =
     start_is file start entry item.row enters ∙ ap (λ (o : Option ℕ). start_with o item.row) same ∙ start_grows (rows_in items) item.row ∙ ap last_start (sym (rows_append items item))
 
@@ -62,7 +62,7 @@ holds_one file above row kept new holds more = λ p.
     ∙ sym (list_any-append p (map (extent_in file) above) (x ∷ []))
     ∙ ap (list_any p) (sym (map-append (extent_in file) above (row ∷ [])))
 
-pub takes_row : (file : SourceFile) (above : List Row) (row : Option Row) (kept new : List Extent) (before : Option ℕ) (e : Entry) (conflict : Option Conflict) (back : Bool) → HoldsRows file above kept → before ≡ last_start above → EntersSome file (Some e) row → conflict ≡ conflict_with kept (extent_at e.place e.last) → (conflict_with kept (extent_at e.place e.last) ≡ None → (p : Extent → Bool) → list_any p new ≡ (p (extent_at e.place e.last) || list_any p kept)) → back ≡ is_back file before e.place.code → TakesRow file above row new (rule_by conflict back)
+pub takes_row : (file : SourceFile) (above : List Row) (row : Option Row) (kept new : List Extent) (before : Option ℕ) (e : LoadedRow) (conflict : Option Conflict) (back : Bool) → HoldsRows file above kept → before ≡ last_start above → EntersSome file (Some e) row → conflict ≡ conflict_with kept (extent_at e.place e.last) → (conflict_with kept (extent_at e.place e.last) ≡ None → (p : Extent → Bool) → list_any p new ≡ (p (extent_at e.place e.last) || list_any p kept)) → back ≡ is_back file before e.place.code → TakesRow file above row new (rule_by conflict back)
 takes_row file above None kept new before e conflict back holds start enters is more falls = absurd enters
 takes_row file above (Some row) kept new before e conflict back holds start enters is more falls =
     let x = extent_is file row e.place e.last enters.names enters.code enters.last in

@@ -6,12 +6,12 @@ use Rattle.std.proofs.lemmas.List.Concat.{flat_map-append}
 use Rattle.std.proofs.lemmas.List.Elements.{All-drop, All-take}
 use Rattle.ucd_points.specs.SourceFiles.{file_place}
 use Rattle.part_list.specs.Parts.{PartLists, flat, now_in, part_at, spliced}
-use Rattle.part_list.specs.declared.spanned.Spanned.{Spanned}
+use Rattle.part_list.specs.declared.entry.Entry.{Entry}
 use Rattle.release_rows.specs.Back.{LeadsOn, turned}
 use Rattle.release_rows.specs.FileLemmas.{items_at-with_items_same}
 use Rattle.release_rows.specs.Patches.{IsDefined, LeadsBack, SpliceItems, Stands, back, undone}
 use Rattle.release_rows.specs.Releases.{items_at, with_items, FileItem, SourceFile}
-use Rattle.release_rows.specs.declared.stretch.Stretch.{Stretch}
+use Rattle.release_rows.specs.declared.stored_item.StoredItem.{StoredItem}
 
 abbrev Files : Type 0
 Files = List (List FileItem)
@@ -79,9 +79,9 @@ pub record Trimmed (now next now_mid next_mid : List FileItem) (front : ℕ) : T
   pub now_is : now ≡ before ++ (now_mid ++ behind)
   pub next_is : next ≡ before ++ (next_mid ++ behind)
 
-pub trimmed : (st : Spanned Stretch → FileItem) (now next now_rest next_rest : List (Spanned Stretch)) (front n m : ℕ) → front ≤ length now → take front (map st now) ≡ take front (map st next) → now_rest ≡ drop front now → next_rest ≡ drop front next → drop n (map st now_rest) ≡ drop m (map st next_rest) → Trimmed (map st now) (map st next) (map st (take n now_rest)) (map st (take m next_rest)) front
+pub trimmed : (st : Entry StoredItem → FileItem) (now next now_rest next_rest : List (Entry StoredItem)) (front n m : ℕ) → front ≤ length now → take front (map st now) ≡ take front (map st next) → now_rest ≡ drop front now → next_rest ≡ drop front next → drop n (map st now_rest) ≡ drop m (map st next_rest) → Trimmed (map st now) (map st next) (map st (take n now_rest)) (map st (take m next_rest)) front
 trimmed st now next now_rest next_rest front n m le same now_is next_is ends =
-    let cut : (k : ℕ) (xs rest : List (Spanned Stretch)) → rest ≡ drop front xs → map st xs ≡ take front (map st xs) ++ (map st (take k rest) ++ drop k (map st rest)) = λ k xs rest is.
+    let cut : (k : ℕ) (xs rest : List (Entry StoredItem)) → rest ≡ drop front xs → map st xs ≡ take front (map st xs) ++ (map st (take k rest) ++ drop k (map st rest)) = λ k xs rest is.
     sym (ap (λ (l : List FileItem). take front (map st xs) ++ (l ++ drop k (map st rest))) (sym (take-map st k rest)) ∙ ap (λ (l : List FileItem). take front (map st xs) ++ l) (take-append-drop k (map st rest) ∙ ap (map st) is ∙ sym (drop-map st front xs)) ∙ take-append-drop front (map st xs)) in
     record {
       before = take front (map st now);
@@ -104,7 +104,7 @@ leads_trimmed patch new s file now next later earlier before behind at front t s
     let now_is : before ++ (now ++ behind) ≡ (before ++ t.before) ++ (earlier ++ (t.behind ++ behind)) = ap (λ (l : List FileItem). before ++ (l ++ behind)) t.now_is ∙ around before t.before earlier t.behind behind in
     subst (λ (l : List FileItem). LeadsOn patch new file l (before ++ (now ++ behind))) (sym next_is) (subst (LeadsOn patch new file ((before ++ t.before) ++ (later ++ (t.behind ++ behind)))) (sym now_is) there)
 
-pub none_mapped : (st : Spanned Stretch → FileItem) (xs : List (Spanned Stretch)) (b : Bool) → b ≡ (length xs == 0) → b ≡ true → map st xs ≡ []
+pub none_mapped : (st : Entry StoredItem → FileItem) (xs : List (Entry StoredItem)) (b : Bool) → b ≡ (length xs == 0) → b ≡ true → map st xs ≡ []
 none_mapped st [] b is e = refl
 none_mapped st (x ∷ xs) b is e = absurd (let none : (suc (length xs) == 0) ≡ true = sym is ∙ e in grind (arith, nat_tests))
 
@@ -141,14 +141,14 @@ map_three {A} {B} f a b c = map-append f a (b ++ c) ∙ ap (λ (l : List B). map
 
 -- ---- what both begin and end with
 
-pub same_front_more : (st : Spanned Stretch → FileItem) (xs ys : List (Spanned Stretch)) (count : ℕ) (d e : Spanned Stretch) → count < length xs → count < length ys → st (get_or xs count d) ≡ st (get_or ys count e) → take count (map st xs) ≡ take count (map st ys) → take (count + 1) (map st xs) ≡ take (count + 1) (map st ys)
+pub same_front_more : (st : Entry StoredItem → FileItem) (xs ys : List (Entry StoredItem)) (count : ℕ) (d e : Entry StoredItem) → count < length xs → count < length ys → st (get_or xs count d) ≡ st (get_or ys count e) → take count (map st xs) ≡ take count (map st ys) → take (count + 1) (map st xs) ≡ take (count + 1) (map st ys)
 same_front_more st xs ys count d e lt lt' same so_far =
     let long = length-map xs st in
     let long' = length-map ys st in
     take_more_same (map st xs) (map st ys) count (st d) (omega arith) (omega arith) so_far
     (get_or-map st xs count d (st d) lt ∙ same ∙ sym (get_or-map st ys count e (st d) lt'))
 
-last_more : (st : Spanned Stretch → FileItem) (xs : List (Spanned Stretch)) (count : ℕ) (d : Spanned Stretch) → count < length xs → drop (length xs - (count + 1)) (map st xs) ≡ st (get_or xs (length xs - 1 - count) d) ∷ drop (length xs - count) (map st xs)
+last_more : (st : Entry StoredItem → FileItem) (xs : List (Entry StoredItem)) (count : ℕ) (d : Entry StoredItem) → count < length xs → drop (length xs - (count + 1)) (map st xs) ≡ st (get_or xs (length xs - 1 - count) d) ∷ drop (length xs - count) (map st xs)
 last_more st xs count d lt =
     let n = length xs - 1 - count in
     let here : length xs - (count + 1) ≡ n = omega arith in
@@ -158,7 +158,7 @@ last_more st xs count d lt =
     ∙ ap (λ (i : FileItem). i ∷ drop (n + 1) (map st xs)) (get_or-map st xs n d (st d) (omega (arith, lt)))
     ∙ ap (λ k. st (get_or xs n d) ∷ drop k (map st xs)) next
 
-pub same_end_more : (st : Spanned Stretch → FileItem) (xs ys : List (Spanned Stretch)) (count : ℕ) (d e : Spanned Stretch) → count < length xs → count < length ys → st (get_or xs (length xs - 1 - count) d) ≡ st (get_or ys (length ys - 1 - count) e) → drop (length xs - count) (map st xs) ≡ drop (length ys - count) (map st ys) → drop (length xs - (count + 1)) (map st xs) ≡ drop (length ys - (count + 1)) (map st ys)
+pub same_end_more : (st : Entry StoredItem → FileItem) (xs ys : List (Entry StoredItem)) (count : ℕ) (d e : Entry StoredItem) → count < length xs → count < length ys → st (get_or xs (length xs - 1 - count) d) ≡ st (get_or ys (length ys - 1 - count) e) → drop (length xs - count) (map st xs) ≡ drop (length ys - count) (map st ys) → drop (length xs - (count + 1)) (map st xs) ≡ drop (length ys - (count + 1)) (map st ys)
 same_end_more st xs ys count d e lt lt' same so_far =
     last_more st xs count d lt ∙ ap (λ (i : FileItem). i ∷ drop (length xs - count) (map st xs)) same ∙ ap (λ (l : List FileItem). st (get_or ys (length ys - 1 - count) e) ∷ l) so_far ∙ sym (last_more st ys count e lt')
 
@@ -174,18 +174,18 @@ all_in_part {A} P xs slot lt all =
     subst (All P) here (All-take P (length part) (drop (length front) (flat xs)) (All-drop P (length front) (flat xs) all))
 
 -- a part that was edited, and one that was not
-module _ (st : Spanned Stretch → FileItem) (patch new : Splices) (file : SourceFile) (items : PartLists (Spanned Stretch)) (slot : ℕ) (now next : List (Spanned Stretch)) (lt : slot < length items.now) (both : length items.next ≡ length items.now) (now_is : now ≡ part_at items.now slot) (next_is : next ≡ part_at items.next slot) where
-  abbrev pub front : List (Spanned Stretch)
+module _ (st : Entry StoredItem → FileItem) (patch new : Splices) (file : SourceFile) (items : PartLists (Entry StoredItem)) (slot : ℕ) (now next : List (Entry StoredItem)) (lt : slot < length items.now) (both : length items.next ≡ length items.now) (now_is : now ≡ part_at items.now slot) (next_is : next ≡ part_at items.next slot) where
+  abbrev pub front : List (Entry StoredItem)
   front = flat (take slot items.now)
 
-  abbrev pub rest : List (Spanned Stretch)
+  abbrev pub rest : List (Entry StoredItem)
   rest = flat (drop (slot + 1) items.next)
 
   before_part : map st (turned items slot) ≡ map st front ++ (map st next ++ map st rest)
-  before_part = ap (map st) (turned_at items slot (omega (arith, lt, both)) ∙ ap (λ (l : List (Spanned Stretch)). front ++ (l ++ rest)) (sym next_is)) ∙ map_three st front next rest
+  before_part = ap (map st) (turned_at items slot (omega (arith, lt, both)) ∙ ap (λ (l : List (Entry StoredItem)). front ++ (l ++ rest)) (sym next_is)) ∙ map_three st front next rest
 
   behind_part : map st (turned items (slot + 1)) ≡ map st front ++ (map st now ++ map st rest)
-  behind_part = ap (map st) (turned_more items slot lt ∙ ap (λ (l : List (Spanned Stretch)). front ++ (l ++ rest)) (sym now_is)) ∙ map_three st front now rest
+  behind_part = ap (map st) (turned_more items slot lt ∙ ap (λ (l : List (Entry StoredItem)). front ++ (l ++ rest)) (sym now_is)) ∙ map_three st front now rest
 
   pub leads_part : LeadsOn patch new file (map st front ++ (map st next ++ map st rest)) (map st front ++ (map st now ++ map st rest)) → LeadsOn patch new file (map st (turned items slot)) (map st (turned items (slot + 1)))
   leads_part h = subst (λ (l : List FileItem). LeadsOn patch new file l (map st (turned items (slot + 1)))) (sym before_part) (subst (LeadsOn patch new file (map st front ++ (map st next ++ map st rest))) (sym behind_part) h)

@@ -21,7 +21,7 @@ use Rattle.source_rows.specs.Keys.{code_number, is_before, key_cmp, key_of, row_
 use Rattle.source_rows.specs.declared.key.Key.{Key}
 use Rattle.part_list.specs.Parts.{PartLists, flat, next_in}
 use Rattle.part_list.specs.SpotLaws.{place-lt}
-use Rattle.part_list.specs.declared.spanned.Spanned.{Spanned}
+use Rattle.part_list.specs.declared.entry.Entry.{Entry}
 use Rattle.release_rows.specs.FileItems.{FileItem, SourceFile, Row}
 use Rattle.release_rows.specs.Gaps.{IsGapAt}
 use Rattle.release_rows.specs.Keys.{is_missing_in}
@@ -33,7 +33,7 @@ use Rattle.release_rows.specs.declared.edits.Gap.{Gap}
 use Rattle.release_rows.specs.declared.edits.Gap.TheVariants.{Front, Behind, Only}
 use Rattle.release_rows.specs.declared.lead.Lead.{Lead}
 use Rattle.release_rows.specs.declared.lead.Leads.{Leads}
-use Rattle.release_rows.specs.declared.stretch.Stretch.{Stretch}
+use Rattle.release_rows.specs.declared.stored_item.StoredItem.{StoredItem}
 use Rattle.release_rows.proofs.Arena.{content_kept, items_kept}
 use Rattle.release_rows.proofs.Edited.{sought_own}
 use Rattle.release_rows.proofs.Seeking.{behind_found, code_is}
@@ -191,7 +191,7 @@ lead_of file text row items added lead gives code plain place within = record {
 
 -- ---- what is said of items is so of entries
 
-pub none_behind : (s : Sought) (row : Row) (entries : List (Spanned Stretch)) → ContentsHaveKeys → IsSoughtRow s.file row s.text s → All (IsStored s.file s.text) entries → NoneFollows s.file row (map (stored_at s.file s.text) entries) → All (λ e. comes_behind s e ≡ false) entries
+pub none_behind : (s : Sought) (row : Row) (entries : List (Entry StoredItem)) → ContentsHaveKeys → IsSoughtRow s.file row s.text s → All (IsStored s.file s.text) entries → NoneFollows s.file row (map (stored_at s.file s.text) entries) → All (λ e. comes_behind s e ≡ false) entries
 none_behind s row [] law is all none = λ k d lt. absurd (omega arith)
 none_behind s row (e ∷ entries) law is all none =
     let st = stored_at s.file s.text in
@@ -221,7 +221,7 @@ kept_by file text more items (Some leads) all = All-weaker (IsLead file text ite
 pub leads_kept : (file : SourceFile) (text more : List ℕ) (items : List FileItem) (leads : Leads) → KeepLeads file text items leads → KeepLeads file (text ++ more) items leads
 leads_kept file text more items leads all = kept_by file text more items leads.list all
 
-pub leads_grown : (file : SourceFile) (text more : List ℕ) (added : ℕ) (items : PartLists (Spanned Stretch)) (leads : Leads) → IsKeptFile file text added items → KeepLeads file text (map (stored_at file text) (next_in items)) leads → KeepLeads file (text ++ more) (map (stored_at file (text ++ more)) (next_in items)) leads
+pub leads_grown : (file : SourceFile) (text more : List ℕ) (added : ℕ) (items : PartLists (Entry StoredItem)) (leads : Leads) → IsKeptFile file text added items → KeepLeads file text (map (stored_at file text) (next_in items)) leads → KeepLeads file (text ++ more) (map (stored_at file (text ++ more)) (next_in items)) leads
 leads_grown file text more added items leads kept all = rw (items_kept file text more (next_in items) kept.next) (leads_kept file text more (map (stored_at file text) (next_in items)) leads all)
 
 -- ---- leads one after the other
@@ -245,7 +245,7 @@ gap_within (Front spot) n parts h = let none = h.2 in omega arith
 gap_within (Behind spot) n parts h = let lt = place-lt parts spot h.0 in let next = h.1 in omega arith
 gap_within Only n parts h = let none = h.1 in omega arith
 
-pub leads_of : (file : SourceFile) (row : Row) (text : List ℕ) (s : Sought) (items new : List FileItem) (added : FileItem) (count : Option ℕ) (item : Stretch) (old later : Leads) → IsSoughtRow file row text s → GivesRow file text item row → IfSome count (λ count. count ≡ place_in file row items) → place_in file row items ≤ length items → KeepLeads file text items old → new ≡ put_in items (place_in file row items) added → added.row ≡ Some row → ((r : Row) (is : List FileItem) (one : FileItem) → IsSoughtRow s.file r s.text s → GivesRow s.file s.text item r → one.row ≡ Some r → IfSome count (λ count. count ≡ place_in s.file r is) → place_in s.file r is ≤ length is → KeepLeads s.file s.text is old → KeepLeads s.file s.text (put_in is (place_in s.file r is) one) later) → KeepLeads file text new later
+pub leads_of : (file : SourceFile) (row : Row) (text : List ℕ) (s : Sought) (items new : List FileItem) (added : FileItem) (count : Option ℕ) (item : StoredItem) (old later : Leads) → IsSoughtRow file row text s → GivesRow file text item row → IfSome count (λ count. count ≡ place_in file row items) → place_in file row items ≤ length items → KeepLeads file text items old → new ≡ put_in items (place_in file row items) added → added.row ≡ Some row → ((r : Row) (is : List FileItem) (one : FileItem) → IsSoughtRow s.file r s.text s → GivesRow s.file s.text item r → one.row ≡ Some r → IfSome count (λ count. count ≡ place_in s.file r is) → place_in s.file r is ≤ length is → KeepLeads s.file s.text is old → KeepLeads s.file s.text (put_in is (place_in s.file r is) one) later) → KeepLeads file text new later
 leads_of file row text s items new added count item old later sought gives place within all put some noted =
     let leads = noted row items added (sought_own file row text s sought) (rw (sought.file_is, sought.text_is) gives) some (rw sought.file_is place) (rw sought.file_is within) (rw (sought.file_is, sought.text_is) all) in
     subst (λ (is : List FileItem). KeepLeads file text is later) (sym put)

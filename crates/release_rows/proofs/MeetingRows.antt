@@ -5,14 +5,14 @@ use Rattle.std.proofs.lemmas.List.Elements.{All-head, All-tail, filter-append}
 use Rattle.ucd_points.specs.Bounds.{Bounds}
 use Rattle.source_rows.specs.KeyNames.{has_code}
 use Rattle.source_rows.specs.Laws.{RowsAreOk, RowsAreRead}
-use Rattle.part_list.specs.declared.spanned.Spanned.{Spanned}
+use Rattle.part_list.specs.declared.entry.Entry.{Entry}
 use Rattle.release_rows.specs.FileItems.{rows_in, onto_rows, SourceFile, Row}
 use Rattle.release_rows.specs.Keys.{spans_meet}
 use Rattle.release_rows.specs.Meetings.{entry_meets}
 use Rattle.release_rows.specs.Operations.{row_spans, spans_of}
 use Rattle.release_rows.specs.StoredItems.{stored_at, item_at, IsStored}
 use Rattle.release_rows.specs.Touching.{meets}
-use Rattle.release_rows.specs.declared.stretch.Stretch.{Stretch}
+use Rattle.release_rows.specs.declared.stored_item.StoredItem.{StoredItem}
 use Rattle.release_rows.proofs.EntrySpans.{stored_spans, stored_no_spans}
 
 onto_behind : (p : Option Row) (rows : List Row) → onto_rows p rows ≡ onto_rows p [] ++ rows
@@ -20,13 +20,13 @@ onto_behind None rows = refl
 onto_behind (Some row) rows = refl
 
 -- the row of one more item is put
-pub rows_more : (file : SourceFile) (text : List ℕ) (items : List (Spanned Stretch)) (e : Spanned Stretch) (rest : List (Spanned Stretch)) (old new whole : List Row)
+pub rows_more : (file : SourceFile) (text : List ℕ) (items : List (Entry StoredItem)) (e : Entry StoredItem) (rest : List (Entry StoredItem)) (old new whole : List Row)
     → items ≡ e ∷ rest → new ≡ old ++ onto_rows (stored_at file text e).row []
     → old ++ rows_in (map (stored_at file text) items) ≡ whole → new ++ rows_in (map (stored_at file text) rest) ≡ whole
 rows_more file text items e rest old new whole split put h =
     let own : List Row = onto_rows (stored_at file text e).row [] in
     let left : List Row = rows_in (map (stored_at file text) rest) in
-    let P : List (Spanned Stretch) → Type 0 = λ xs. old ++ rows_in (map (stored_at file text) xs) ≡ whole in
+    let P : List (Entry StoredItem) → Type 0 = λ xs. old ++ rows_in (map (stored_at file text) xs) ≡ whole in
     ap (λ (rows : List Row). rows ++ left) put
     ∙ append_assoc old own left
     ∙ ap (λ (rows : List Row). old ++ rows) (sym (onto_behind (stored_at file text e).row left))
@@ -42,7 +42,7 @@ filter_one : (p : Row → Bool) (row : Row) (b : Bool) → p row ≡ b → filte
 filter_one p row b e = rw e refl
 
 -- a row with a code speaks of the code points of its entry
-pub met : (file : SourceFile) (text : List ℕ) (spans : List Bounds) (e : Spanned Stretch) (o : Option Row) → (stored_at file text e).row ≡ o → RowsAreRead → RowsAreOk → IsStored file text e → has_code file ≡ true
+pub met : (file : SourceFile) (text : List ℕ) (spans : List Bounds) (e : Entry StoredItem) (o : Option Row) → (stored_at file text e).row ≡ o → RowsAreRead → RowsAreOk → IsStored file text e → has_code file ≡ true
     → (b : Bool) → list_any (spans_meet (record { lo = e.code; hi = e.last })) spans ≡ b → filter (meets spans) (onto_rows o []) ≡ cond b (onto_rows o []) []
 met file text spans e None is read ok stored code true test = refl
 met file text spans e None is read ok stored code false test = refl
@@ -53,7 +53,7 @@ met file text spans e (Some row) is read ok stored code b test =
     filter_one (meets spans) row b (meets_by spans (row_spans row) e.code e.last spoken ∙ test)
 
 -- a row of names meets nothing
-pub not_met : (file : SourceFile) (text : List ℕ) (spans : List Bounds) (e : Spanned Stretch) (o : Option Row) → (stored_at file text e).row ≡ o → RowsAreRead → RowsAreOk → IsStored file text e → has_code file ≡ false
+pub not_met : (file : SourceFile) (text : List ℕ) (spans : List Bounds) (e : Entry StoredItem) (o : Option Row) → (stored_at file text e).row ≡ o → RowsAreRead → RowsAreOk → IsStored file text e → has_code file ≡ false
     → filter (meets spans) (onto_rows o []) ≡ []
 not_met file text spans e None is read ok stored none = refl
 not_met file text spans e (Some row) is read ok stored none =
@@ -62,7 +62,7 @@ not_met file text spans e (Some row) is read ok stored none =
     filter_one (meets spans) row false (ap (λ (owns : List Bounds). list_any (λ own. list_any (spans_meet own) spans) owns) spoken)
 
 -- the rows of the entries that meet the spans are the rows that meet them
-pub rows_met : (file : SourceFile) (text : List ℕ) (spans : List Bounds) (items : List (Spanned Stretch)) → RowsAreRead → RowsAreOk → All (IsStored file text) items → has_code file ≡ true
+pub rows_met : (file : SourceFile) (text : List ℕ) (spans : List Bounds) (items : List (Entry StoredItem)) → RowsAreRead → RowsAreOk → All (IsStored file text) items → has_code file ≡ true
     → rows_in (map (stored_at file text) (filter (entry_meets spans) items)) ≡ filter (meets spans) (rows_in (map (stored_at file text) items))
 rows_met file text spans [] read ok stored code = refl
 rows_met file text spans (e ∷ items) read ok stored code =
@@ -71,7 +71,7 @@ rows_met file text spans (e ∷ items) read ok stored code =
     own : List Row
     own = onto_rows (stored_at file text e).row []
 
-    kept : List (Spanned Stretch)
+    kept : List (Entry StoredItem)
     kept = filter (entry_meets spans) items
 
     left : List Row
@@ -96,7 +96,7 @@ pub meets_alike : (spans others : List Bounds) → ((own : Bounds) → list_any 
 meets_alike spans others alike rows = λ i. filter (λ row. list_any (λ own. alike own i) (row_spans row)) rows
 
 -- no row of names meets a span
-pub none_met : (file : SourceFile) (text : List ℕ) (spans : List Bounds) (items : List (Spanned Stretch)) → RowsAreRead → RowsAreOk → All (IsStored file text) items → has_code file ≡ false
+pub none_met : (file : SourceFile) (text : List ℕ) (spans : List Bounds) (items : List (Entry StoredItem)) → RowsAreRead → RowsAreOk → All (IsStored file text) items → has_code file ≡ false
     → [] ≡ filter (meets spans) (rows_in (map (stored_at file text) items))
 none_met file text spans [] read ok stored none = refl
 none_met file text spans (e ∷ items) read ok stored none =

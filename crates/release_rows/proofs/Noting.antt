@@ -9,13 +9,13 @@ use Rattle.source_rows.specs.KeyNames.{group_of}
 use Rattle.source_rows.specs.Keys.{key_names, row_span}
 use Rattle.part_list.specs.Parts.{PartLists, now_in, next_in}
 use Rattle.part_list.specs.SeenNumbers.{Grows, may_have}
-use Rattle.part_list.specs.declared.spanned.Spanned.{Spanned}
+use Rattle.part_list.specs.declared.entry.Entry.{Entry}
 use Rattle.part_list.specs.declared.seen_numbers.SeenNumbers.{SeenNumbers}
 use Rattle.release_rows.specs.FileItems.{FileItem, SourceFile, Row}
 use Rattle.release_rows.specs.Noted.{AreNoted, OptionNoted, ItemNoted, KeepNotes, RowNoted, group_hash, key_hash}
 use Rattle.release_rows.specs.Operations.{ended, follows, put_in, row_passes, same_group, with_end}
 use Rattle.release_rows.specs.StoredItems.{HasSpan, IsKeptFile, IsStored, content_at, stored_at}
-use Rattle.release_rows.specs.declared.stretch.Stretch.{Stretch}
+use Rattle.release_rows.specs.declared.stored_item.StoredItem.{StoredItem}
 use Rattle.release_rows.proofs.Arena.{items_kept}
 use Rattle.release_rows.proofs.Edited.{map_remove}
 use Rattle.release_rows.proofs.Seeking.{StoredAs, stored_as}
@@ -30,7 +30,7 @@ has_more file old new (Some row) grows h = record { group = grows (group_hash (g
 pub noted_more : (file : SourceFile) (old new : SeenNumbers) (items : List FileItem) → Grows old new → AreNoted file old items → AreNoted file new items
 noted_more file old new items grows all = All-weaker (ItemNoted file old) (ItemNoted file new) (λ item h. has_more file old new item.row grows h) items all
 
-pub notes_more : (file : SourceFile) (text : List ℕ) (old new : SeenNumbers) (items : PartLists (Spanned Stretch)) → Grows old new → KeepNotes file text old items → KeepNotes file text new items
+pub notes_more : (file : SourceFile) (text : List ℕ) (old new : SeenNumbers) (items : PartLists (Entry StoredItem)) → Grows old new → KeepNotes file text old items → KeepNotes file text new items
 notes_more file text old new items grows hashes = record {
   now = noted_more file old new _ grows hashes.now;
   next = noted_more file old new _ grows hashes.next;
@@ -73,32 +73,32 @@ noted_by : (file : SourceFile) (seen_hashes : SeenNumbers) (code last : ℕ) (co
 noted_by file seen_hashes code last content None st span noted = tt
 noted_by file seen_hashes code last content (Some row) st span noted = noted row st.1 span.0
 
-pub noted_stored : (file : SourceFile) (seen_hashes : SeenNumbers) (text : List ℕ) (e : Spanned Stretch) → IsStored file text e → IsNoted file seen_hashes e.code (content_at text e.item) → ItemNoted file seen_hashes (stored_at file text e)
+pub noted_stored : (file : SourceFile) (seen_hashes : SeenNumbers) (text : List ℕ) (e : Entry StoredItem) → IsStored file text e → IsNoted file seen_hashes e.code (content_at text e.item) → ItemNoted file seen_hashes (stored_at file text e)
 noted_stored file seen_hashes text e stored noted = noted_by file seen_hashes e.code e.last (content_at text e.item) _ (stored_as file text e stored) stored.span noted
 
 -- one more of the entries that are left is noted
-pub noted_next : (file : SourceFile) (text : List ℕ) (old new : SeenNumbers) (entries : List (Spanned Stretch)) (e : Spanned Stretch) (rest : List (Spanned Stretch)) (whole : List FileItem) → entries ≡ e ∷ rest → All (IsStored file text) entries → IsNoted file new e.code (content_at text e.item) → Grows old new → ((later : SeenNumbers) → Grows old later → AreNoted file later (map (stored_at file text) entries) → AreNoted file later whole) → (later : SeenNumbers) → Grows new later → AreNoted file later (map (stored_at file text) rest) → AreNoted file later whole
+pub noted_next : (file : SourceFile) (text : List ℕ) (old new : SeenNumbers) (entries : List (Entry StoredItem)) (e : Entry StoredItem) (rest : List (Entry StoredItem)) (whole : List FileItem) → entries ≡ e ∷ rest → All (IsStored file text) entries → IsNoted file new e.code (content_at text e.item) → Grows old new → ((later : SeenNumbers) → Grows old later → AreNoted file later (map (stored_at file text) entries) → AreNoted file later whole) → (later : SeenNumbers) → Grows new later → AreNoted file later (map (stored_at file text) rest) → AreNoted file later whole
 noted_next file text old new entries e rest whole split stored noted grows so_far later more left =
     let st = stored_at file text in
     let one = noted_stored file later text e (first_of (IsStored file text) entries e rest split stored) (λ row is code. record { group = more _ (noted row is code).group; key = more _ (noted row is code).key }) in
-    so_far later (λ t h. more t (grows t h)) (subst (λ (es : List (Spanned Stretch)). AreNoted file later (map st es)) (sym split) (All-cons (ItemNoted file later) (st e) (map st rest) one left))
+    so_far later (λ t h. more t (grows t h)) (subst (λ (es : List (Entry StoredItem)). AreNoted file later (map st es)) (sym split) (All-cons (ItemNoted file later) (st e) (map st rest) one left))
 
 -- ---- the hashes of a file that is edited
 
 -- the text grew, more is noted, and the items next are others
-pub notes_edited : (file : SourceFile) (text more : List ℕ) (added : ℕ) (seen_hashes later : SeenNumbers) (old new : PartLists (Spanned Stretch)) → IsKeptFile file text added old → KeepNotes file text seen_hashes old → Grows seen_hashes later → now_in new ≡ now_in old → AreNoted file later (map (stored_at file (text ++ more)) (next_in new)) → KeepNotes file (text ++ more) later new
+pub notes_edited : (file : SourceFile) (text more : List ℕ) (added : ℕ) (seen_hashes later : SeenNumbers) (old new : PartLists (Entry StoredItem)) → IsKeptFile file text added old → KeepNotes file text seen_hashes old → Grows seen_hashes later → now_in new ≡ now_in old → AreNoted file later (map (stored_at file (text ++ more)) (next_in new)) → KeepNotes file (text ++ more) later new
 notes_edited file text more added seen_hashes later old new kept hashes grows now next = record {
   now = rw (now, items_kept file text more (now_in old) kept.now) (noted_more file seen_hashes later _ grows hashes.now);
   next = next;
 }
 
 -- the items next are the same
-pub notes_grown : (file : SourceFile) (text more : List ℕ) (added : ℕ) (seen_hashes later : SeenNumbers) (items : PartLists (Spanned Stretch)) → IsKeptFile file text added items → KeepNotes file text seen_hashes items → Grows seen_hashes later → KeepNotes file (text ++ more) later items
+pub notes_grown : (file : SourceFile) (text more : List ℕ) (added : ℕ) (seen_hashes later : SeenNumbers) (items : PartLists (Entry StoredItem)) → IsKeptFile file text added items → KeepNotes file text seen_hashes items → Grows seen_hashes later → KeepNotes file (text ++ more) later items
 notes_grown file text more added seen_hashes later items kept hashes grows =
     notes_edited file text more added seen_hashes later items items kept hashes grows refl (rw (items_kept file text more (next_in items) kept.next) (noted_more file seen_hashes later _ grows hashes.next))
 
 -- an entry next is taken out
-pub notes_without : (file : SourceFile) (text : List ℕ) (seen_hashes : SeenNumbers) (at : ℕ) (old new : PartLists (Spanned Stretch)) → KeepNotes file text seen_hashes old → now_in new ≡ now_in old → next_in new ≡ remove (next_in old) at → KeepNotes file text seen_hashes new
+pub notes_without : (file : SourceFile) (text : List ℕ) (seen_hashes : SeenNumbers) (at : ℕ) (old new : PartLists (Entry StoredItem)) → KeepNotes file text seen_hashes old → now_in new ≡ now_in old → next_in new ≡ remove (next_in old) at → KeepNotes file text seen_hashes new
 notes_without file text seen_hashes at old new hashes now next = record {
   now = rw now hashes.now;
   next = rw (next, map_remove (stored_at file text) (next_in old) at) (noted_remove file seen_hashes (map (stored_at file text) (next_in old)) at hashes.next);

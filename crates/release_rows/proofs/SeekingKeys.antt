@@ -9,7 +9,7 @@ use Rattle.source_rows.specs.Keys.{key_names, key_code, code_number, same_code, 
 use Rattle.source_rows.specs.declared.key.Key.{Key}
 use Rattle.part_list.specs.Finds.{FirstAt}
 use Rattle.part_list.specs.Parts.{flat}
-use Rattle.part_list.specs.declared.spanned.Spanned.{Spanned}
+use Rattle.part_list.specs.declared.entry.Entry.{Entry}
 use Rattle.part_list.specs.declared.spot.Spot.{Spot}
 use Rattle.release_rows.specs.Finding.{IsFirst, items_of}
 use Rattle.release_rows.specs.Operations.{has_key, holds_row, row_passes}
@@ -17,7 +17,7 @@ use Rattle.release_rows.specs.Searches.{Sought, has_names, starts_alike}
 use Rattle.release_rows.specs.StoredItems.{HasSpan, IsStored, content_at, item_at, stored_at}
 use Rattle.release_rows.specs.Tags.{key_tag, tag_fits, tells_key}
 use Rattle.release_rows.specs.declared.search.Test.TheVariants.{SameKey}
-use Rattle.release_rows.specs.declared.stretch.Stretch.{Stretch}
+use Rattle.release_rows.specs.declared.stored_item.StoredItem.{StoredItem}
 use Rattle.release_rows.proofs.FoundRows.{found_any}
 use Rattle.release_rows.proofs.Moved.{any_moved, first_moved}
 use Rattle.release_rows.proofs.RowsApart.{numbers_swap, texts_swap}
@@ -59,7 +59,7 @@ code_apart (Some a) None h = refl
 code_apart None (Some b) h = refl
 code_apart None None h = absurd (let k = h refl in cc)
 
-found_by : (file : SourceFile) (text : List ℕ) (e : Spanned Stretch) (key : Key) (o : Option Row) → ContentsHaveKeys → is_some key.code ≡ has_code file → (item_at file text e.item).row ≡ o → StoredAs file (content_at text e.item) o → HasSpan o e.code e.last → (eqb (code_number key.code) e.code && has_names file key.names (content_at text e.item)) ≡ row_passes (has_key file key) (stored_at file text e)
+found_by : (file : SourceFile) (text : List ℕ) (e : Entry StoredItem) (key : Key) (o : Option Row) → ContentsHaveKeys → is_some key.code ≡ has_code file → (item_at file text e.item).row ≡ o → StoredAs file (content_at text e.item) o → HasSpan o e.code e.last → (eqb (code_number key.code) e.code && has_names file key.names (content_at text e.item)) ≡ row_passes (has_key file key) (stored_at file text e)
 found_by file text e key None law code is st span = rw (is, st) (and-false (eqb (code_number key.code) e.code))
 found_by file text e key (Some r) law code is st span =
     let answers = law file (content_at text e.item) r st.1 in
@@ -67,7 +67,7 @@ found_by file text e key (Some r) law code is st span =
     rw (is, st.0, ← answers.names, names_equal key.names (key_names file r), span.0, ← code_is r, code_tells (key_code r) key.code same, texts_swap (key_names file r) key.names)
     (and_comm (eqb (code_number key.code) (code_number (key_code r))) (same_texts key.names (key_names file r)))
 
-stored_found : (file : SourceFile) (text : List ℕ) (e : Spanned Stretch) (key : Key) (s : Sought) → ContentsHaveKeys → is_some key.code ≡ has_code file → IsSoughtKey file key text s → IsStored file text e → starts_alike s e ≡ row_passes (has_key file key) (stored_at file text e)
+stored_found : (file : SourceFile) (text : List ℕ) (e : Entry StoredItem) (key : Key) (s : Sought) → ContentsHaveKeys → is_some key.code ≡ has_code file → IsSoughtKey file key text s → IsStored file text e → starts_alike s e ≡ row_passes (has_key file key) (stored_at file text e)
 stored_found file text e key s law code i h =
     let c = content_at s.text e.item in
     let sought : s.tag ≡ key_tag s.file s.names = rw (i.file_is, i.names) i.tag in
@@ -75,7 +75,7 @@ stored_found file text e key s law code i h =
     ap (λ (b : Bool). eqb s.code e.code && b) told
     ∙ rw (i.file_is, i.text_is, i.code, i.names) (found_by file text e key (item_at file text e.item).row law code refl (stored_as file text e h) h.span)
 
-apart_by : (file : SourceFile) (text : List ℕ) (e : Spanned Stretch) (key : Key) (o : Option Row) → ContentsHaveKeys → (is_some key.code ≡ has_code file → false ≡ true) → (item_at file text e.item).row ≡ o → StoredAs file (content_at text e.item) o → false ≡ row_passes (has_key file key) (stored_at file text e)
+apart_by : (file : SourceFile) (text : List ℕ) (e : Entry StoredItem) (key : Key) (o : Option Row) → ContentsHaveKeys → (is_some key.code ≡ has_code file → false ≡ true) → (item_at file text e.item).row ≡ o → StoredAs file (content_at text e.item) o → false ≡ row_passes (has_key file key) (stored_at file text e)
 apart_by file text e key None law code is st = rw is refl
 apart_by file text e key (Some r) law code is st =
     let answers = law file (content_at text e.item) r st.1 in
@@ -85,7 +85,7 @@ none_passes : {A : Type 0} (xs : List A) → list_any (λ x. false) xs ≡ false
 none_passes [] = refl
 none_passes (x ∷ xs) = none_passes xs
 
-module _ (file : SourceFile) (text : List ℕ) (key : Key) (parts : List (List (Spanned Stretch))) (law : ContentsHaveKeys) (all : All (IsStored file text) (flat parts)) where
+module _ (file : SourceFile) (text : List ℕ) (key : Key) (parts : List (List (Entry StoredItem))) (law : ContentsHaveKeys) (all : All (IsStored file text) (flat parts)) where
   -- a key with a code point where the rows of the file have none, or without one where they have, is that of no row
   pub key_of_none : (is_some key.code ≡ has_code file → false ≡ true) → holds_row (has_key file key) (items_of file text parts) ≡ false
   key_of_none code =

@@ -7,16 +7,16 @@ use Rattle.std.proofs.lemmas.Grind.{flat_map-append}
 use Rattle.ucd_points.specs.Lines.{ending_bytes}
 use Rattle.ucd_lines.specs.Items.{ending_of}
 use Rattle.part_list.specs.Parts.{PartLists, now_in, next_in}
-use Rattle.part_list.specs.declared.spanned.Spanned.{Spanned}
+use Rattle.part_list.specs.declared.entry.Entry.{Entry}
 use Rattle.release_rows.specs.Pieces.{Lines, piece_content, piece_ending, piece_lines}
-use Rattle.release_rows.specs.Entries.{EntersSome}
+use Rattle.release_rows.specs.LoadedRows.{EntersSome}
 use Rattle.release_rows.specs.FileItems.{FileItem, bytes_of, file_item_bytes, lines_of, rows_in, SourceFile, Row}
 use Rattle.release_rows.specs.Loading.{at_line, content_row, file_item, piece_fault}
 use Rattle.release_rows.specs.Progress.{Stands, IsLoading, rule_of, start_of_entry}
 use Rattle.release_rows.specs.StoredItems.{content_at, item_at, stored_at, IsItem, IsStored, HasSpan}
 use Rattle.release_rows.specs.Tags.{content_tag}
-use Rattle.release_rows.specs.declared.entry.Entry.{Entry}
-use Rattle.release_rows.specs.declared.stretch.Stretch.{Stretch}
+use Rattle.release_rows.specs.declared.loaded_row.LoadedRow.{LoadedRow}
+use Rattle.release_rows.specs.declared.stored_item.StoredItem.{StoredItem}
 use Rattle.release_rows.proofs.Growing.{lines_with, start_after}
 
 part_is : (front content ending rest : List ℕ) → take (length content) (drop (length front) (front ++ ((content ++ ending) ++ rest))) ≡ content
@@ -25,31 +25,31 @@ part_is front content ending rest =
     ∙ take-append_seam content (ending ++ rest)
 
 -- the content of a piece that stands behind the items
-pub content_is : (text : List ℕ) (items : List FileItem) (p : Lines) (s : Stretch) → Stands text items p → s.start ≡ length (bytes_of items) → s.len ≡ length (piece_content p) → content_at text s ≡ piece_content p
+pub content_is : (text : List ℕ) (items : List FileItem) (p : Lines) (s : StoredItem) → Stands text items p → s.start ≡ length (bytes_of items) → s.len ≡ length (piece_content p) → content_at text s ≡ piece_content p
 content_is text items p s stands start len =
     rw (start, len, stands.1) (part_is (bytes_of items) (piece_content p) (ending_bytes (piece_ending p)) stands.0)
 
-pub item_is : (file : SourceFile) (text : List ℕ) (s : Stretch) (p : Lines) → content_at text s ≡ piece_content p → ending_of s.ending ≡ piece_ending p → s.lines ≡ piece_lines p → item_at file text s ≡ file_item file p
+pub item_is : (file : SourceFile) (text : List ℕ) (s : StoredItem) (p : Lines) → content_at text s ≡ piece_content p → ending_of s.ending ≡ piece_ending p → s.lines ≡ piece_lines p → item_at file text s ≡ file_item file p
 item_is file text s p content ending lines = rw (content, ending, lines) refl
 
 pub bytes_with : (items : List FileItem) (item : FileItem) → bytes_of (items ++ item ∷ []) ≡ bytes_of items ++ file_item_bytes item
 bytes_with items item = flat_map-append file_item_bytes items (item ∷ []) ∙ ap (λ (bs : List ℕ). bytes_of items ++ bs) (append-nil (file_item_bytes item))
 
-length_content : (text : List ℕ) (s : Stretch) → s.start + s.len ≤ length text → length (content_at text s) ≡ s.len
+length_content : (text : List ℕ) (s : StoredItem) → s.start + s.len ≤ length text → length (content_at text s) ≡ s.len
 length_content text s fits = omega (arith, length-take s.len (drop s.start text), length-drop s.start text, fits)
 
-item_length : (file : SourceFile) (text : List ℕ) (s : Stretch) → s.start + s.len ≤ length text → length (file_item_bytes (item_at file text s)) ≡ s.len + length (ending_bytes (ending_of s.ending))
+item_length : (file : SourceFile) (text : List ℕ) (s : StoredItem) → s.start + s.len ≤ length text → length (file_item_bytes (item_at file text s)) ≡ s.len + length (ending_bytes (ending_of s.ending))
 item_length file text s fits = length-append (content_at text s) (ending_bytes (ending_of s.ending)) ∙ ap (λ (n : ℕ). n + length (ending_bytes (ending_of s.ending))) (length_content text s fits)
 
 -- one more item behind those that are loaded
-pub loads : (file : SourceFile) (text : List ℕ) (old all : PartLists (Spanned Stretch)) (e : Spanned Stretch) (s : Stretch) (start : Option ℕ) (count end : ℕ) (entry : Option Entry) → IsLoading file text old start count end → e.item ≡ s → now_in all ≡ now_in old ++ e ∷ [] → next_in all ≡ next_in old ++ e ∷ [] → IsItem file text s → HasSpan (item_at file text s).row e.code e.last → e.tag ≡ content_tag file (content_at text s) → EntersSome file entry (item_at file text s).row → IsLoading file text all (start_of_entry start entry) (count + s.lines) (end + (s.len + length (ending_bytes (ending_of s.ending))))
+pub loads : (file : SourceFile) (text : List ℕ) (old all : PartLists (Entry StoredItem)) (e : Entry StoredItem) (s : StoredItem) (start : Option ℕ) (count end : ℕ) (entry : Option LoadedRow) → IsLoading file text old start count end → e.item ≡ s → now_in all ≡ now_in old ++ e ∷ [] → next_in all ≡ next_in old ++ e ∷ [] → IsItem file text s → HasSpan (item_at file text s).row e.code e.last → e.tag ≡ content_tag file (content_at text s) → EntersSome file entry (item_at file text s).row → IsLoading file text all (start_of_entry start entry) (count + s.lines) (end + (s.len + length (ending_bytes (ending_of s.ending))))
 loads file text old all e s start count end entry h is now next item span tag enters =
     let items = map (stored_at file text) (now_in old) in
     let new = item_at file text s in
-    let by : Stretch → FileItem = λ x. item_at file text x in
+    let by : StoredItem → FileItem = λ x. item_at file text x in
     let pushed : map (stored_at file text) (now_in all) ≡ items ++ new ∷ [] =
     ap (map (stored_at file text)) now ∙ map-append (stored_at file text) (now_in old) (e ∷ []) ∙ ap (λ (i : FileItem). items ++ i ∷ []) (ap by is) in
-    let S : Stretch → Type 0 = λ x. IsItem file text x × HasSpan (item_at file text x).row e.code e.last × (e.tag ≡ content_tag file (content_at text x)) in
+    let S : StoredItem → Type 0 = λ x. IsItem file text x × HasSpan (item_at file text x).row e.code e.last × (e.tag ≡ content_tag file (content_at text x)) in
     let stands : S e.item = subst S (sym is) (item, span, tag) in
     let stored : IsStored file text e = record { item = stands.0; span = stands.1; tag = stands.2 } in
     let count_old = h.few in

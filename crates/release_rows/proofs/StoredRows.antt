@@ -13,7 +13,7 @@ use Rattle.source_rows.specs.Laws.{RowsAreRead}
 use Rattle.source_rows.specs.Trivia.{RowsAreNoTrivia}
 use Rattle.release_rows.specs.Operations.{item_of_row}
 use Rattle.release_rows.specs.StoredItems.{content_at, item_at}
-use Rattle.release_rows.specs.declared.stretch.Stretch.{Stretch}
+use Rattle.release_rows.specs.declared.stored_item.StoredItem.{StoredItem}
 use Rattle.release_rows.proofs.Operations.{row_is_read}
 
 -- ---- how many lines there are
@@ -55,9 +55,9 @@ lines_are PropertyValueAliases bytes row (inr two) = absurd two
 
 -- ---- what was put there
 
-put_there : (text bytes : List ℕ) (s : Stretch) → s.start ≡ length text → s.len ≡ length bytes → content_at (text ++ bytes) s ≡ bytes
+put_there : (text bytes : List ℕ) (s : StoredItem) → s.start ≡ length text → s.len ≡ length bytes → content_at (text ++ bytes) s ≡ bytes
 put_there text bytes s start len = rw (start, len, drop-append_seam text bytes) (take-length bytes)
 
-pub item_there : (file : SourceFile) (row : Row) (text bytes : List ℕ) (s : Stretch) → RowsAreRead → RowsAreNoTrivia → row_or_fault file bytes ≡ Ok row → s.start ≡ length text → s.len ≡ length bytes → s.lines ≡ cond (holds_line_feed bytes) 2 1 → item_at file (text ++ bytes) s ≡ item_of_row row bytes (ending_of s.ending)
+pub item_there : (file : SourceFile) (row : Row) (text bytes : List ℕ) (s : StoredItem) → RowsAreRead → RowsAreNoTrivia → row_or_fault file bytes ≡ Ok row → s.start ≡ length text → s.len ≡ length bytes → s.lines ≡ cond (holds_line_feed bytes) 2 1 → item_at file (text ++ bytes) s ≡ item_of_row row bytes (ending_of s.ending)
 item_there file row text bytes s read trivia h start len lines =
     rw (put_there text bytes s start len, row_is_read file row bytes trivia h, lines, lines_are file bytes row ((read file bytes row).0 h)) refl

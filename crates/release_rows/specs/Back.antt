@@ -6,16 +6,16 @@
 -- turned items slot          the list that has the entries now of the parts before the slot, and the entries next of the others
 use Rattle.std.specs.Prelude.{◌≡◌, ℕ, List, ◌++◌, length, map, take, drop, All}
 use Rattle.part_list.specs.Parts.{PartLists, flat}
-use Rattle.part_list.specs.declared.spanned.Spanned.{Spanned}
+use Rattle.part_list.specs.declared.entry.Entry.{Entry}
 use Rattle.release_rows.specs.Patches.{LeadsBack, SpliceItems}
 use Rattle.release_rows.specs.Releases.{items_at, with_items, FileItem, SourceFile}
 use Rattle.release_rows.specs.StoredItems.{IsStored, stored_at}
-use Rattle.release_rows.specs.declared.stretch.Stretch.{Stretch}
+use Rattle.release_rows.specs.declared.stored_item.StoredItem.{StoredItem}
 
 abbrev pub Grew : List ℕ → List ℕ → Type 0
 Grew old new = (more : List ℕ) × (new ≡ old ++ more)
 
-pub record AreCopies (file : SourceFile) (from : List ℕ) (entries : List (Spanned Stretch)) (text : List ℕ) (copies : List (Spanned Stretch)) : Type 0 where
+pub record AreCopies (file : SourceFile) (from : List ℕ) (entries : List (Entry StoredItem)) (text : List ℕ) (copies : List (Entry StoredItem)) : Type 0 where
   pub stored : All (IsStored file text) copies
   pub items : map (stored_at file text) copies ≡ map (stored_at file from) entries
 

@@ -4,10 +4,10 @@
 use Rattle.std.specs.Prelude.{◌≡◌, List, [], ◌∷◌, map, Option, Some, None, All}
 use Rattle.release_rows.specs.Chains.{IsOrderedPlace, placed_extent}
 use Rattle.release_rows.specs.Keys.{extent_in, SourceFile, Row}
-use Rattle.release_rows.specs.declared.entry.Entry.{Entry}
+use Rattle.release_rows.specs.declared.loaded_row.LoadedRow.{LoadedRow}
 use Rattle.release_rows.specs.declared.keyed_extent.KeyedExtent.{KeyedExtent}
 
-abbrev pub placed_of : Option Entry → List KeyedExtent
+abbrev pub placed_of : Option LoadedRow → List KeyedExtent
 placed_of None = []
 placed_of (Some e) = record { place = e.place; last = e.last } ∷ []
 

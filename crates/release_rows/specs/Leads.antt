@@ -1,7 +1,7 @@
 -- Leads: rows with counts of items among which no row of their group has a greater key.
 -- NoneFollows file row items   none of the items has a row that follows this one
--- GivesRow file text item row   the stretch lies within the text, and its content reads as the row
--- IsLead file text items lead   the lead's stretch gives a row of its code point, which none of its count of items follows
+-- GivesRow file text item row   the item lies within the text, and its content reads as the row
+-- IsLead file text items lead   the lead's item gives a row of its code point, which none of its count of items follows
 -- AreLeads file text items leads   so it is of each lead
 -- KeepLeads file text items leads   so it is of each lead that is kept
 use Rattle.std.specs.Prelude.{◌≡◌, ℕ, ◌+◌, ◌≤◌, false, List, length, take, Ok, All, IfSome}
@@ -12,12 +12,12 @@ use Rattle.release_rows.specs.Operations.{follows, row_passes}
 use Rattle.release_rows.specs.StoredItems.{content_at}
 use Rattle.release_rows.specs.declared.lead.Lead.{Lead}
 use Rattle.release_rows.specs.declared.lead.Leads.{Leads}
-use Rattle.release_rows.specs.declared.stretch.Stretch.{Stretch}
+use Rattle.release_rows.specs.declared.stored_item.StoredItem.{StoredItem}
 
 abbrev pub NoneFollows : SourceFile → Row → List FileItem → Type 0
 NoneFollows file row items = All (λ item. row_passes (follows file row) item ≡ false) items
 
-pub record GivesRow (file : SourceFile) (text : List ℕ) (item : Stretch) (row : Row) : Type 0 where
+pub record GivesRow (file : SourceFile) (text : List ℕ) (item : StoredItem) (row : Row) : Type 0 where
   pub fits : item.start + item.len ≤ length text
   pub reads : row_or_fault file (content_at text item) ≡ Ok row
 

@@ -5,7 +5,7 @@ pub mod Chains
 pub mod NamelessSpans
 pub mod Names
 pub mod Keys
-pub mod Entries
+pub mod LoadedRows
 pub mod Pieces
 pub mod FileItems
 pub mod Cuts

@@ -3,9 +3,9 @@
 use Rattle.std.specs.Prelude.{Bool, List}
 use Rattle.std.specs.List.{list_any}
 use Rattle.ucd_points.specs.Bounds.{Bounds}
-use Rattle.part_list.specs.declared.spanned.Spanned.{Spanned}
+use Rattle.part_list.specs.declared.entry.Entry.{Entry}
 use Rattle.release_rows.specs.Keys.{spans_meet}
-use Rattle.release_rows.specs.declared.stretch.Stretch.{Stretch}
+use Rattle.release_rows.specs.declared.stored_item.StoredItem.{StoredItem}
 
-abbrev pub entry_meets : List Bounds → Spanned Stretch → Bool
+abbrev pub entry_meets : List Bounds → Entry StoredItem → Bool
 entry_meets spans e = list_any (spans_meet (record { lo = e.code; hi = e.last })) spans

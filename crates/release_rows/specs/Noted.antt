@@ -15,11 +15,11 @@ use Rattle.source_rows.specs.KeyNames.{group_of}
 use Rattle.source_rows.specs.Keys.{key_names, row_span}
 use Rattle.part_list.specs.Parts.{PartLists, now_in, next_in}
 use Rattle.part_list.specs.SeenNumbers.{may_have}
-use Rattle.part_list.specs.declared.spanned.Spanned.{Spanned}
+use Rattle.part_list.specs.declared.entry.Entry.{Entry}
 use Rattle.part_list.specs.declared.seen_numbers.SeenNumbers.{SeenNumbers}
 use Rattle.release_rows.specs.FileItems.{FileItem, SourceFile, Row}
 use Rattle.release_rows.specs.StoredItems.{stored_at}
-use Rattle.release_rows.specs.declared.stretch.Stretch.{Stretch}
+use Rattle.release_rows.specs.declared.stored_item.StoredItem.{StoredItem}
 
 abbrev pub hash_on : ℕ → List ℕ → ℕ
 hash_on hash [] = hash
@@ -53,6 +53,6 @@ ItemNoted file seen_hashes item = OptionNoted file seen_hashes item.row
 abbrev pub AreNoted : SourceFile → SeenNumbers → List FileItem → Type 0
 AreNoted file seen_hashes items = All (ItemNoted file seen_hashes) items
 
-pub record KeepNotes (file : SourceFile) (text : List ℕ) (seen_hashes : SeenNumbers) (items : PartLists (Spanned Stretch)) : Type 0 where
+pub record KeepNotes (file : SourceFile) (text : List ℕ) (seen_hashes : SeenNumbers) (items : PartLists (Entry StoredItem)) : Type 0 where
   pub now : AreNoted file seen_hashes (map (stored_at file text) (now_in items))
   pub next : AreNoted file seen_hashes (map (stored_at file text) (next_in items))

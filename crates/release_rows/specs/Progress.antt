@@ -21,27 +21,27 @@ use Rattle.std.specs.Prelude.{◌≡◌, ℕ, ◌<◌, ◌≤◌, ◌^◌, Bool,
 use Rattle.std.specs.List.{list_any, All}
 use Rattle.source_rows.specs.declared.fault.RowFault.{RowFault}
 use Rattle.part_list.specs.Parts.{PartLists, now_in, next_in}
-use Rattle.part_list.specs.declared.spanned.Spanned.{Spanned}
+use Rattle.part_list.specs.declared.entry.Entry.{Entry}
 use Rattle.release_rows.specs.Extents.{Extent}
-use Rattle.release_rows.specs.Entries.{EntersSome}
+use Rattle.release_rows.specs.LoadedRows.{EntersSome}
 use Rattle.release_rows.specs.Keys.{extent_in, last_start}
 use Rattle.release_rows.specs.Pieces.{Lines, piece_bytes, piece_content, piece_ending, piece_lines}
 use Rattle.release_rows.specs.FileItems.{FileItem, FileLists, bytes_of, onto_rows, rows_in, lines_of, SourceFile, Row}
 use Rattle.release_rows.specs.Loading.{LoadFault, content_row, file_item, fault_line, piece_fault, row_rule}
 use Rattle.release_rows.specs.StoredItems.{stored_at, IsStored}
-use Rattle.release_rows.specs.declared.entry.Entry.{Entry}
+use Rattle.release_rows.specs.declared.loaded_row.LoadedRow.{LoadedRow}
 use Rattle.release_rows.specs.declared.load_stop.LoadRule.{LoadRule}
 use Rattle.release_rows.specs.declared.load_stop.LoadRule.TheVariants.{Row as RowRule}
 use Rattle.release_rows.specs.declared.load_stop.LoadStop.{LoadStop}
 use Rattle.release_rows.specs.declared.load_stop.LoadStop.TheVariants.{Fault, Memory}
-use Rattle.release_rows.specs.declared.stretch.Stretch.{Stretch}
+use Rattle.release_rows.specs.declared.stored_item.StoredItem.{StoredItem}
 
 pub record Progress : Type 0 where
   pub file : SourceFile
   pub text : List ℕ
   pub items : List FileItem
 
-pub record IsLoading (file : SourceFile) (text : List ℕ) (items : PartLists (Spanned Stretch)) (start : Option ℕ) (count end : ℕ) : Type 0 where
+pub record IsLoading (file : SourceFile) (text : List ℕ) (items : PartLists (Entry StoredItem)) (start : Option ℕ) (count end : ℕ) : Type 0 where
   pub each : All (IsStored file text) (now_in items)
   pub same : next_in items ≡ now_in items
   pub few : length (now_in items) ≤ count
@@ -63,7 +63,7 @@ item_by file line p (Err fault) = Err (record { line = fault_line file line p fa
 abbrev pub item_or_fault : SourceFile → ℕ → Lines → Result FileItem LoadFault
 item_or_fault file line p = item_by file line p (content_row file (piece_content p))
 
-abbrev pub ReadsPiece : SourceFile → ℕ → Lines → Result (Option Entry) LoadStop → Type 0
+abbrev pub ReadsPiece : SourceFile → ℕ → Lines → Result (Option LoadedRow) LoadStop → Type 0
 ReadsPiece file line p (Ok entry) = (content_row file (piece_content p) ≡ Ok (file_item file p).row) × EntersSome file entry (file_item file p).row
 ReadsPiece file line p (Err (Fault at rule)) = item_or_fault file line p ≡ Err (record { line = at; rule = rule })
 ReadsPiece file line p (Err Memory) = Unit {0}
@@ -87,7 +87,7 @@ LoadsItems (Err Memory) expected = Unit {0}
 
 -- ---- one more row
 
-abbrev pub start_of_entry : Option ℕ → Option Entry → Option ℕ
+abbrev pub start_of_entry : Option ℕ → Option LoadedRow → Option ℕ
 start_of_entry before None = before
 start_of_entry before (Some e) = Some e.place.code
 

@@ -17,13 +17,13 @@ use Rattle.std.specs.Ordering.{ordering_then, nat_cmp, is_eq, is_lt}
 use Rattle.ucd_points.specs.MissingLines.{is_trivia}
 use Rattle.source_rows.specs.Keys.{row_span, key_names}
 use Rattle.source_rows.specs.KeyNames.{content_group, content_names, group_of, names_cmp}
-use Rattle.part_list.specs.declared.spanned.Spanned.{Spanned}
+use Rattle.part_list.specs.declared.entry.Entry.{Entry}
 use Rattle.release_rows.specs.Keys.{has_spans, is_missing_row, row_end, SourceFile, Row}
 use Rattle.release_rows.specs.StoredItems.{content_at}
 use Rattle.release_rows.specs.Tags.{HasTag, tag_fits, tag_rises, tells_group, tells_key, tells_order}
 use Rattle.release_rows.specs.declared.search.Test.{Test}
 use Rattle.release_rows.specs.declared.search.Test.TheVariants.{SameKey, OverlapsAnother, Follows, SameGroup, Any}
-use Rattle.release_rows.specs.declared.stretch.Stretch.{Stretch}
+use Rattle.release_rows.specs.declared.stored_item.StoredItem.{StoredItem}
 
 abbrev pub is_row : SourceFile → List ℕ → Bool
 is_row file content = not (is_trivia file content)
@@ -48,31 +48,31 @@ pub record Sought : Type 0 where
 abbrev pub with_test : Sought → Test → Sought
 with_test s test = record { test = test; file = s.file; text = s.text; code = s.code; last = s.last; names = s.names; group = s.group; tag = s.tag; missing = s.missing }
 
-abbrev pub starts_alike : Sought → Spanned Stretch → Bool
+abbrev pub starts_alike : Sought → Entry StoredItem → Bool
 starts_alike s e = (s.code == e.code) && (tag_fits (tells_key s.file) s.tag e.tag && has_names s.file s.names (content_at s.text e.item))
 
 abbrev pub forbids : Sought → Bool
 forbids s = has_spans s.file && not s.missing
 
-abbrev pub meets_another : Sought → Spanned Stretch → Bool
+abbrev pub meets_another : Sought → Entry StoredItem → Bool
 meets_another s e = forbids s && (not (s.code == e.code) && ((nat_le s.code e.last && nat_le e.code s.last) && (tag_fits (tells_key s.file) s.tag e.tag && has_names s.file s.names (content_at s.text e.item))))
 
-abbrev pub is_alike : Sought → Spanned Stretch → Bool
+abbrev pub is_alike : Sought → Entry StoredItem → Bool
 is_alike s e = tag_fits (tells_group s.file) s.tag e.tag && is_of_group s.file s.group (content_at s.text e.item)
 
-abbrev pub comes_behind : Sought → Spanned Stretch → Bool
+abbrev pub comes_behind : Sought → Entry StoredItem → Bool
 comes_behind s e =
     tag_rises (tells_order s.file) s.code e.code s.tag e.tag
     && (is_alike s e && is_lt (ordering_then (nat_cmp s.code e.code) (names_cmp s.names (content_names s.file (content_at s.text e.item)))))
 
-abbrev passes_by : Test → Sought → Spanned Stretch → Bool
+abbrev passes_by : Test → Sought → Entry StoredItem → Bool
 passes_by SameKey s e = starts_alike s e
 passes_by OverlapsAnother s e = meets_another s e
 passes_by Follows s e = comes_behind s e
 passes_by SameGroup s e = is_alike s e
 passes_by Any s e = true
 
-abbrev pub entry_passes : Sought → Spanned Stretch → Bool
+abbrev pub entry_passes : Sought → Entry StoredItem → Bool
 entry_passes s e = passes_by s.test s e
 
 pub record IsSoughtRow (file : SourceFile) (row : Row) (text : List ℕ) (s : Sought) : Type 0 where

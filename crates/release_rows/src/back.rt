@@ -11,8 +11,8 @@ ghost use Rattle.release_rows.specs.StoredItems.{stored_at, IsStored};
 use crate::file_text::FileText;
 use crate::nine_files::NineFiles;
 use crate::splice::Splice;
-use crate::stretch::Stretch;
-use part_list::Spanned;
+use crate::stored_item::StoredItem;
+use part_list::Entry;
 use std::alloc::Global;
 use ucd_facts::{Memory, Spans};
 
@@ -41,7 +41,7 @@ fn put_all(
     items: &mut FileText,
     at: usize,
     from: &[u8],
-    entries: &[Spanned<Stretch>],
+    entries: &[Entry<StoredItem>],
 ) -> Result<(), Memory>
     requires stored { All (IsStored items.old.file from.now) entries.now }
     requires within { at ≤ length items.old.next }

@@ -5,9 +5,9 @@ ghost use Rattle.std.specs.List.{All};
 ghost use Rattle.release_rows.specs.Back.{AreCopies, Grew};
 ghost use Rattle.release_rows.specs.StoredItems.{stored_at, IsStored};
 
-use crate::stored_row::stretch_behind;
-use crate::stretch::{Stretch, content_in};
-use part_list::Spanned;
+use crate::stored_item::{StoredItem, content_in};
+use crate::stored_row::place_behind;
+use part_list::Entry;
 use std::alloc::Global;
 use ucd_facts::{ListOf, Memory, SourceFile, Text};
 
@@ -17,9 +17,9 @@ use ucd_facts::{ListOf, Memory, SourceFile, Text};
 pub fn copy_entry(
     file: SourceFile,
     from: &[u8],
-    entry: &Spanned<Stretch>,
+    entry: &Entry<StoredItem>,
     into: &mut Text,
-) -> Result<Spanned<Stretch>, Memory>
+) -> Result<Entry<StoredItem>, Memory>
     requires { IsStored file from.now entry.now }
     ensures item { IfOk result (λ copy. stored_at file into.new copy
         ≡ stored_at file from.now entry.now) }
@@ -28,10 +28,10 @@ pub fn copy_entry(
     ensures err { OnErr result (into.new ≡ into.old) }
 {
     let content = content_in(from, entry.item);
-    let (start, len) = stretch_behind(into.as_slice(), content)?;
+    let (start, len) = place_behind(into.as_slice(), content)?;
     into.append(content)?;
-    Ok(Spanned {
-        item: Stretch {
+    Ok(Entry {
+        item: StoredItem {
             start,
             len,
             ..entry.item
@@ -47,9 +47,9 @@ pub fn copied(
     alloc: Global,
     file: SourceFile,
     from: &[u8],
-    entries: &[Spanned<Stretch>],
+    entries: &[Entry<StoredItem>],
     into: &mut Text,
-) -> Result<ListOf<Spanned<Stretch>>, Memory>
+) -> Result<ListOf<Entry<StoredItem>>, Memory>
     requires { All (IsStored file from.now) entries.now }
     ensures copies { IfOk result (λ copies. AreCopies file from.now entries.now into.new copies) }
     ensures grows { OnOk result (Grew into.old into.new) }

@@ -9,13 +9,13 @@ ghost use Rattle.release_rows.specs.StoredItems.{item_at, stored_at, IsStored};
 
 use crate::patch::Patch;
 use crate::splice::Splice;
-use crate::stretch::Stretch;
-use part_list::Spanned;
+use crate::stored_item::StoredItem;
+use part_list::Entry;
 use std::alloc::Global;
 use ucd_facts::{Memory, SourceFile};
 
 /// Whether two items of one text are told to be the same by where they stand, their ends and their numbers of lines.
-fn is_same(one: Stretch, other: Stretch) -> bool
+fn is_same(one: StoredItem, other: StoredItem) -> bool
     ensures { result ≡ true → (file : FileValue) (text : List ℕ)
         → item_at file text one ≡ item_at file text other }
 {
@@ -26,7 +26,7 @@ fn is_same(one: Stretch, other: Stretch) -> bool
 }
 
 /// How many items both begin with.
-fn same_front(now: &[Spanned<Stretch>], next: &[Spanned<Stretch>]) -> usize
+fn same_front(now: &[Entry<StoredItem>], next: &[Entry<StoredItem>]) -> usize
     ensures now { result ≤ length now.now }
     ensures next { result ≤ length next.now }
     ensures same { (file : FileValue) (text : List ℕ)
@@ -44,7 +44,7 @@ fn same_front(now: &[Spanned<Stretch>], next: &[Spanned<Stretch>]) -> usize
 }
 
 /// How many items both end with.
-fn same_end(now: &[Spanned<Stretch>], next: &[Spanned<Stretch>]) -> usize
+fn same_end(now: &[Entry<StoredItem>], next: &[Entry<StoredItem>]) -> usize
     ensures now { result ≤ length now.now }
     ensures next { result ≤ length next.now }
     ensures same { (file : FileValue) (text : List ℕ)
@@ -72,8 +72,8 @@ pub fn put_difference(
     file: SourceFile,
     text: &[u8],
     at: usize,
-    now: &[Spanned<Stretch>],
-    next: &[Spanned<Stretch>],
+    now: &[Entry<StoredItem>],
+    next: &[Entry<StoredItem>],
     patch: &mut Patch,
 ) -> Result<(), Memory>
     requires now { All (IsStored file text.now) now.now }
@@ -91,6 +91,6 @@ pub fn put_difference(
     if now.is_empty() && next.is_empty() {
         return Ok(());
     }
-    let splice = Splice::of(alloc, file, text, at + front, next, now)?;
+    let splice = Splice::copied_from(alloc, file, text, at + front, next, now)?;
     patch.push(splice)
 }

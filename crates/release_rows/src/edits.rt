@@ -16,8 +16,8 @@ ghost use Rattle.release_rows.specs.StoredItems.{stored_at, IsStored};
 use crate::hash::group_hash;
 use crate::lead::{Leads, has_leads};
 use crate::search::{Search, Test};
-use crate::stretch::Stretch;
-use part_list::{PartList, SeenNumbers, Spanned, Spot};
+use crate::stored_item::StoredItem;
+use part_list::{Entry, PartList, SeenNumbers, Spot};
 use source_rows::contents_have_keys;
 use ucd_facts::{Memory, SourceFile};
 use ucd_lines::Ending;
@@ -34,7 +34,7 @@ pub enum Gap {
 }
 
 /// The gap behind all entries.
-fn end_gap(items: &PartList<Stretch>, search: &Search<'_>) -> Gap
+fn end_gap(items: &PartList<StoredItem>, search: &Search<'_>) -> Gap
     ensures { IsGapAt result (length (next_in items.now)) items.now.next }
 {
     match items.last(&search.with(Test::Any)) {
@@ -46,7 +46,7 @@ fn end_gap(items: &PartList<Stretch>, search: &Search<'_>) -> Gap
 /// Where a row other than a missing row has its place: before the first one of its group that has a greater key; if none
 /// has, behind the last one of its group; if there is none, behind all. If it is known that no row has its group, nothing is looked for.
 fn ordinary_gap(
-    items: &PartList<Stretch>,
+    items: &PartList<StoredItem>,
     seen_hashes: &SeenNumbers,
     leads: &Leads,
     search: &Search<'_>,
@@ -80,7 +80,7 @@ fn ordinary_gap(
 }
 
 /// Where a missing row has its place: behind the last missing row; if there is none, before all.
-fn missing_gap(items: &PartList<Stretch>, search: &Search<'_>) -> Gap
+fn missing_gap(items: &PartList<StoredItem>, search: &Search<'_>) -> Gap
     requires each { All (IsStored search.now.file search.now.text) (next_in items.now) }
     ensures { (row : RowValue) → IsSoughtRow search.now.file row search.now.text search.now
         → is_missing_in search.now.file row ≡ true
@@ -99,7 +99,7 @@ fn missing_gap(items: &PartList<Stretch>, search: &Search<'_>) -> Gap
 
 /// Where a row that is added has its place.
 pub fn gap_for(
-    items: &PartList<Stretch>,
+    items: &PartList<StoredItem>,
     seen_hashes: &SeenNumbers,
     leads: &Leads,
     search: &Search<'_>,
@@ -123,7 +123,7 @@ pub fn gap_for(
 }
 
 /// How many entries stand before a gap.
-fn gap_place(items: &PartList<Stretch>, gap: Gap) -> usize
+fn gap_place(items: &PartList<StoredItem>, gap: Gap) -> usize
     requires gap { (n : ℕ) × IsGapAt gap n items.now.next }
     requires few { length (next_in items.now) < 2 ^ 63 }
     ensures { (n : ℕ) → IsGapAt gap n items.now.next → result ≡ n }
@@ -135,7 +135,7 @@ fn gap_place(items: &PartList<Stretch>, gap: Gap) -> usize
 }
 
 /// How many entries stand before a gap of a file that has leads; `None` for another file.
-pub fn lead_count(file: SourceFile, items: &PartList<Stretch>, gap: Gap) -> Option<usize>
+pub fn lead_count(file: SourceFile, items: &PartList<StoredItem>, gap: Gap) -> Option<usize>
     requires gap { (n : ℕ) × IsGapAt gap n items.now.next }
     requires few { length (next_in items.now) < 2 ^ 63 }
     ensures { (n : ℕ) → IsGapAt gap n items.now.next
@@ -148,15 +148,15 @@ pub fn lead_count(file: SourceFile, items: &PartList<Stretch>, gap: Gap) -> Opti
 }
 
 /// The entry, with a LF if it has no line end.
-fn with_end(entry: Spanned<Stretch>) -> Spanned<Stretch>
+fn with_end(entry: Entry<StoredItem>) -> Entry<StoredItem>
     ensures item { (file : FileValue) (text : List ℕ)
         → stored_at file text result ≡ with_end (stored_at file text entry) }
     ensures stored { (file : FileValue) (text : List ℕ) → IsStored file text entry
         → IsStored file text result }
 {
     match entry.item.ending {
-        Ending::None => Spanned {
-            item: Stretch {
+        Ending::None => Entry {
+            item: StoredItem {
                 ending: Ending::Lf,
                 ..entry.item
             },
@@ -170,9 +170,9 @@ fn with_end(entry: Spanned<Stretch>) -> Spanned<Stretch>
 ///
 /// - `Memory`: memory ran out. The entries stay as they were.
 pub fn put_in(
-    items: &mut PartList<Stretch>,
+    items: &mut PartList<StoredItem>,
     gap: Gap,
-    entry: Spanned<Stretch>,
+    entry: Entry<StoredItem>,
 ) -> Result<(), Memory>
     requires { (n : ℕ) × IsGapAt gap n items.old.next }
     ensures now { now_in items.new ≡ now_in items.old }
@@ -199,9 +199,9 @@ pub fn put_in(
 ///
 /// - `Memory`: memory ran out. The entries stay as they were.
 pub fn put_at(
-    items: &mut PartList<Stretch>,
+    items: &mut PartList<StoredItem>,
     at: usize,
-    entry: Spanned<Stretch>,
+    entry: Entry<StoredItem>,
 ) -> Result<(), Memory>
     requires { at ≤ length (next_in items.old) }
     ensures now { now_in items.new ≡ now_in items.old }

@@ -4,7 +4,7 @@ ghost use Rattle.std.specs.Prelude.{◌≡◌, ◌≤◌, ◌||◌, ℕ, Bool, t
 ghost use Rattle.std.specs.List.{list_any};
 ghost use Rattle.release_rows.specs.Extents.{Extent, conflict_with, meets};
 ghost use Rattle.release_rows.specs.Places.{extent_at};
-ghost use Rattle.release_rows.specs.Entries.{IsFree};
+ghost use Rattle.release_rows.specs.LoadedRows.{IsFree};
 
 use crate::conflict::Conflict;
 use crate::sort_key::SortKey;

@@ -10,9 +10,9 @@ use crate::edits::put_at;
 use crate::file_text::FileText;
 use crate::noted::note_hashes;
 use crate::patch::Patch;
-use crate::stretch::{Stretch, content_in};
+use crate::stored_item::{StoredItem, content_in};
 use crate::way_back::put_way_back;
-use part_list::Spanned;
+use part_list::Entry;
 use std::alloc::Global;
 use ucd_facts::Memory;
 
@@ -53,7 +53,7 @@ impl FileText {
         &mut self,
         at: usize,
         from: &[u8],
-        entry: &Spanned<Stretch>,
+        entry: &Entry<StoredItem>,
     ) -> Result<(), Memory>
         requires stored { IsStored self.old.file from.now entry.now }
         requires within { at ≤ length self.old.next }

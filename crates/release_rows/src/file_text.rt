@@ -13,7 +13,7 @@ use crate::join::joined;
 use crate::lead::Leads;
 use crate::row_iter::Rows;
 use crate::row_text::RowText;
-use crate::stretch::Stretch;
+use crate::stored_item::StoredItem;
 use crate::touching::touching_rows;
 use part_list::{PartList, SeenNumbers};
 use std::alloc::Global;
@@ -26,7 +26,7 @@ use ucd_facts::{Copied, Memory, SourceFile, Span, Text};
 pub struct FileText {
     pub(crate) file: SourceFile,
     pub(crate) text: Text,
-    pub(crate) items: PartList<Stretch>,
+    pub(crate) items: PartList<StoredItem>,
     /// Whether the items put together are the text, now and next, as they are until the first edit.
     pub(crate) whole: bool,
     /// How many items were added since the file was loaded.
@@ -69,7 +69,7 @@ impl FileText {
     }
 
     /// The file of a text that is cut into these items, now and next.
-    pub fn new(file: SourceFile, text: Text, items: PartList<Stretch>) -> FileText
+    pub fn new(file: SourceFile, text: Text, items: PartList<StoredItem>) -> FileText
         requires each { All (IsStored file text) (now_in items) }
         requires same { next_in items ≡ now_in items }
         requires few { length (now_in items) < 2 ^ 32 }

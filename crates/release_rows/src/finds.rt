@@ -22,7 +22,7 @@ use crate::lead::Leads;
 use crate::op_spans::{code_of, has_code};
 use crate::row_key::row_end;
 use crate::search::{Search, Test};
-use crate::stretch::Stretch;
+use crate::stored_item::StoredItem;
 use crate::tag::{content_tag, key_tag};
 use part_list::{PartList, SeenNumbers, Spot};
 use source_rows::{Key, content_group, contents_have_keys};
@@ -66,7 +66,7 @@ pub fn search_row<'a>(
 /// - `K1`: a row has its key.
 /// - `K4`: it overlaps a row.
 pub fn added_gap(
-    items: &PartList<Stretch>,
+    items: &PartList<StoredItem>,
     seen_hashes: &SeenNumbers,
     leads: &Leads,
     search: &Search<'_>,
@@ -106,7 +106,7 @@ fn is_new_key(seen_hashes: &SeenNumbers, search: &Search<'_>) -> bool
 ///
 /// - `K2`: no row has its key.
 /// - `K4`: it overlaps another row.
-pub fn changed_spot(items: &PartList<Stretch>, search: &Search<'_>) -> Result<Spot, KeyRule>
+pub fn changed_spot(items: &PartList<StoredItem>, search: &Search<'_>) -> Result<Spot, KeyRule>
     requires each { All (IsStored search.now.file search.now.text) (next_in items.now) }
     ensures { (row : RowValue) → IsSoughtRow search.now.file row search.now.text search.now
         → FindsSpot result search.now.file search.now.text row items.now.next }
@@ -125,7 +125,7 @@ pub fn changed_spot(items: &PartList<Stretch>, search: &Search<'_>) -> Result<Sp
 ///
 /// - `K2`: no row has it.
 pub fn withdrawn_spot(
-    items: &PartList<Stretch>,
+    items: &PartList<StoredItem>,
     file: SourceFile,
     text: &[u8],
     key: &Key,

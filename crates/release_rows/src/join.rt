@@ -7,7 +7,7 @@ ghost use Rattle.ucd_points.specs.Lines.{ending_bytes};
 ghost use Rattle.release_rows.specs.FileItems.{bytes_of, file_item_bytes};
 ghost use Rattle.release_rows.specs.StoredItems.{item_at, stored_at, IsItem, IsStored};
 
-use crate::stretch::{Stretch, content_in};
+use crate::stored_item::{StoredItem, content_in};
 use part_list::Entries;
 use std::alloc::Global;
 use ucd_facts::{Memory, SourceFile, Text};
@@ -27,12 +27,17 @@ fn ending_text(ending: Ending) -> &'static [u8]
 /// Puts the content of an item and the bytes of its ending at the end of a text.
 ///
 /// - `Memory`: memory ran out.
-fn put_item(file: SourceFile, text: &[u8], stretch: Stretch, into: &mut Text) -> Result<(), Memory>
-    requires { IsItem file text.now stretch }
-    ensures { OnOk result (into.new ≡ into.old ++ file_item_bytes (item_at file text.now stretch)) }
+fn put_item(
+    file: SourceFile,
+    text: &[u8],
+    stored: StoredItem,
+    into: &mut Text,
+) -> Result<(), Memory>
+    requires { IsItem file text.now stored }
+    ensures { OnOk result (into.new ≡ into.old ++ file_item_bytes (item_at file text.now stored)) }
 {
-    into.append(content_in(text, stretch))?;
-    into.append(ending_text(stretch.ending))?;
+    into.append(content_in(text, stored))?;
+    into.append(ending_text(stored.ending))?;
     Ok(())
 }
 
@@ -43,7 +48,7 @@ pub fn joined(
     alloc: Global,
     file: SourceFile,
     text: &[u8],
-    mut items: Entries<'_, Stretch>,
+    mut items: Entries<'_, StoredItem>,
 ) -> Result<Text, Memory>
     requires { All (IsStored file text.now) items }
     ensures { IfOk result (λ bytes. bytes ≡ bytes_of (map (stored_at file text.now) items.entry)) }

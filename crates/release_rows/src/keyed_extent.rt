@@ -5,7 +5,7 @@ ghost use Rattle.std.specs.List.{All, IsDistinct};
 ghost use Rattle.release_rows.specs.Chains.{IsChain, IsOrderedPlace, ends_before, places_meet};
 ghost use Rattle.release_rows.specs.Gathered.{placed_of};
 
-use crate::entry::Entry;
+use crate::loaded_row::LoadedRow;
 use crate::sort_key::SortKey;
 use std::cmp::Ordering;
 use ucd_facts::Memory;
@@ -22,10 +22,10 @@ pub struct KeyedExtent {
 /// Puts the key of one more row behind the others, if there is one.
 ///
 /// - `Memory`: memory ran out.
-pub fn put_placed(rows: &mut Vec<KeyedExtent>, entry: Option<Entry>) -> Result<(), Memory>
+pub fn put_placed(rows: &mut Vec<KeyedExtent>, entry: Option<LoadedRow>) -> Result<(), Memory>
     ensures { OnOk result (rows.new.items ≡ rows.old.items ++ placed_of entry) }
 {
-    if let Some(Entry { place, last, .. }) = entry {
+    if let Some(LoadedRow { place, last, .. }) = entry {
         rows.push(KeyedExtent { place, last })?;
     }
     Ok(())

@@ -15,7 +15,7 @@ ghost use Rattle.release_rows.specs.Searches.{IsSoughtRow};
 ghost use Rattle.release_rows.specs.StoredItems.{content_at};
 
 use crate::search::Search;
-use crate::stretch::{Stretch, content_in};
+use crate::stored_item::{StoredItem, content_in};
 use source_rows::{compare_names, content_group, contents_have_keys};
 use std::alloc::Global;
 use std::cmp::Ordering;
@@ -32,7 +32,7 @@ pub struct Lead {
     /// The first code point of the row, as a number.
     pub code: u32,
     /// Where the content of the row stands in the text of the file.
-    pub item: Stretch,
+    pub item: StoredItem,
 }
 
 /// Leads of a file, if it has any. They are rows that were added while nothing else was edited.
@@ -200,7 +200,7 @@ fn put_lead(leads: &mut Vec<Lead>, search: &Search<'_>, lead: Lead)
 
 /// Moves leads for the row that is looked for, which stands there in the text and is put in at its place, behind so many items. It has a
 /// lead of its own if many items behind those that leads passed were looked at.
-fn note_row(leads: &mut Vec<Lead>, search: &Search<'_>, count: usize, item: Stretch)
+fn note_row(leads: &mut Vec<Lead>, search: &Search<'_>, count: usize, item: StoredItem)
     requires { takes_missing search.now.file ≡ false }
     ensures { (row : RowValue) (items : List FileItem) (added : FileItem)
         → IsSoughtRow search.now.file row search.now.text search.now
@@ -268,7 +268,7 @@ impl Leads {
 
     /// Notes that the row that is looked for, which stands there in the text, is put in at its place, behind so many items. There are no
     /// leads if the file has none, or if there is no memory for the first.
-    fn note_behind(&mut self, alloc: Global, search: &Search<'_>, count: usize, item: Stretch)
+    fn note_behind(&mut self, alloc: Global, search: &Search<'_>, count: usize, item: StoredItem)
         ensures { (row : RowValue) (items : List FileItem) (added : FileItem)
             → IsSoughtRow search.now.file row search.now.text search.now
             → GivesRow search.now.file search.now.text item row
@@ -289,7 +289,13 @@ impl Leads {
 
     /// Notes that the row that is looked for, which stands there in the text, is put in at its place. If it is told behind how many items
     /// that is, leads are moved for it; otherwise all are dropped.
-    pub fn note(&mut self, alloc: Global, search: &Search<'_>, count: Option<usize>, item: Stretch)
+    pub fn note(
+        &mut self,
+        alloc: Global,
+        search: &Search<'_>,
+        count: Option<usize>,
+        item: StoredItem,
+    )
         ensures { (row : RowValue) (items : List FileItem) (added : FileItem)
             → IsSoughtRow search.now.file row search.now.text search.now
             → GivesRow search.now.file search.now.text item row

@@ -19,7 +19,7 @@ use crate::laws::loaded_files_are_sound;
 use crate::load_stop::LoadStop;
 use crate::loading::Loading;
 use crate::piece::next_piece;
-use crate::stretch::Stretch;
+use crate::stored_item::StoredItem;
 use part_list::PartList;
 use std::alloc::Global;
 use ucd_facts::{Memory, SourceFile, Text};
@@ -28,7 +28,7 @@ use ucd_lines::items;
 /// Where the items of a file stand in its text, and the keys of its rows, which were not compared.
 #[derive(Drop)]
 struct Gathered {
-    items: PartList<Stretch>,
+    items: PartList<StoredItem>,
     rows: Vec<KeyedExtent>,
 }
 
@@ -57,7 +57,7 @@ fn gather_all(alloc: Global, file: SourceFile, bytes: &[u8]) -> Result<Gathered,
 /// The items, if no two rows have one key and share a code point.
 ///
 /// - `Memory`: memory ran out.
-fn items_apart(made: Gathered) -> Result<Option<PartList<Stretch>>, Memory>
+fn items_apart(made: Gathered) -> Result<Option<PartList<StoredItem>>, Memory>
     requires { All IsOrderedPlace made.rows.items }
     ensures { IfOk result (λ found. IfSome found
         (λ items. (items ≡ made.items) × IsDistinct places_meet made.rows.items)) }
@@ -78,7 +78,7 @@ fn gathered_items(
     alloc: Global,
     file: SourceFile,
     bytes: &[u8],
-) -> Result<Option<PartList<Stretch>>, Memory>
+) -> Result<Option<PartList<StoredItem>>, Memory>
     requires short { length bytes.now ≤ file_limit }
     requires other { file ≢ UnicodeData }
     ensures { IfOk result (λ found. IfSome found (λ items. IsLoaded file bytes.now items)) }
@@ -99,7 +99,7 @@ fn checked_items(
     alloc: Global,
     file: SourceFile,
     bytes: &[u8],
-) -> Result<PartList<Stretch>, LoadStop>
+) -> Result<PartList<StoredItem>, LoadStop>
     requires { length bytes.now ≤ file_limit }
     ensures { LoadsList file bytes.now result }
 {
@@ -121,7 +121,7 @@ fn placed_items(
     alloc: Global,
     file: SourceFile,
     bytes: &[u8],
-) -> Result<PartList<Stretch>, LoadStop>
+) -> Result<PartList<StoredItem>, LoadStop>
     requires { length bytes.now ≤ file_limit }
     ensures { LoadsList file bytes.now result }
 {

@@ -5,7 +5,7 @@ ghost use Rattle.std.specs.List.{All};
 ghost use Rattle.ucd_points.specs.declared.files.SourceFile.{SourceFile as FileValue};
 ghost use Rattle.ucd_facts.specs.declared.row.Row.{Row as RowValue};
 ghost use Rattle.release_rows.specs.Briefs.{brief_of, no_brief};
-ghost use Rattle.release_rows.specs.Entries.{EntersSome};
+ghost use Rattle.release_rows.specs.LoadedRows.{EntersSome};
 ghost use Rattle.release_rows.specs.Gathered.{AreGathered};
 ghost use Rattle.release_rows.specs.Pieces.{piece_lines};
 ghost use Rattle.release_rows.specs.FileItems.{bytes_of, file_item_bytes, rows_in, lines_of};
@@ -15,16 +15,16 @@ ghost use Rattle.release_rows.specs.Loaders.{IsSound, progress_of, items_above};
 ghost use Rattle.part_list.specs.Parts.{now_in, next_in};
 ghost use Rattle.release_rows.specs.StoredItems.{piece_of, item_at, stored_at, IsItem, IsStored, HasSpan};
 
-use crate::entry::Entry;
 use crate::extents::Extents;
 use crate::keyed_extent::{KeyedExtent, put_placed};
 use crate::load_stop::LoadStop;
-use crate::piece::{Piece, content_of, ending_len, stretch_of};
+use crate::loaded_row::LoadedRow;
+use crate::piece::{Piece, content_of, ending_len, stored_item_of};
 use crate::read_piece::read_piece;
 use crate::row_rule::take_row;
-use crate::stretch::{Stretch, content_in};
+use crate::stored_item::{StoredItem, content_in};
 use crate::tag::content_tag;
-use part_list::{PartList, Spanned};
+use part_list::{Entry, PartList};
 use source_rows::FieldsCache;
 use std::alloc::Global;
 use ucd_facts::{Memory, SourceFile};
@@ -35,7 +35,7 @@ use ucd_facts::{Memory, SourceFile};
 pub struct Loading<'a> {
     file: SourceFile,
     text: &'a [u8],
-    items: PartList<Stretch>,
+    items: PartList<StoredItem>,
     /// Where the items end in the text.
     end: u32,
     /// The first code point of the last row; `None` if there is no row yet.
@@ -47,7 +47,7 @@ pub struct Loading<'a> {
 }
 
 /// The first code point of the last row, with one more row, if there is one.
-fn start_with(before: Option<u32>, entry: &Option<Entry>) -> Option<u32>
+fn start_with(before: Option<u32>, entry: &Option<LoadedRow>) -> Option<u32>
     ensures { result ≡ start_of_entry before entry.now }
 {
     match entry {
@@ -56,14 +56,14 @@ fn start_with(before: Option<u32>, entry: &Option<Entry>) -> Option<u32>
     }
 }
 
-/// A stretch with the code points of its row, and with a tag. Trivia has the first code point of the last row.
-fn spanned(
-    stretch: Stretch,
+/// An item with the code points of its row, and with a tag. Trivia has the first code point of the last row.
+fn entry_of_item(
+    stored: StoredItem,
     tag: u32,
-    entry: &Option<Entry>,
+    entry: &Option<LoadedRow>,
     before: Option<u32>,
-) -> Spanned<Stretch>
-    ensures item { result.item ≡ stretch }
+) -> Entry<StoredItem>
+    ensures item { result.item ≡ stored }
     ensures tag { result.tag ≡ tag }
     ensures span { (file : FileValue) (row : Option RowValue) → EntersSome file entry.now row
         → HasSpan row result.code result.last }
@@ -72,29 +72,29 @@ fn spanned(
         Some(entry) => (entry.place.code, entry.reach),
         None => (before.unwrap_or(0), before.unwrap_or(0)),
     };
-    Spanned {
+    Entry {
         code,
         last,
         tag,
-        item: stretch,
+        item: stored,
     }
 }
 
-/// The stretch of a row, with what is kept of what the row gives; a stretch of trivia as it is.
-fn with_brief(stretch: Stretch, entry: &Option<Entry>) -> Stretch
-    ensures start { result.start ≡ stretch.start }
-    ensures len { result.len ≡ stretch.len }
-    ensures ending { result.ending ≡ stretch.ending }
-    ensures lines { result.lines ≡ stretch.lines }
-    ensures brief { (file : FileValue) (row : Option RowValue) → stretch.brief ≡ no_brief
+/// The item of a row, with what is kept of what the row gives; one of trivia as it is.
+fn with_brief(stored: StoredItem, entry: &Option<LoadedRow>) -> StoredItem
+    ensures start { result.start ≡ stored.start }
+    ensures len { result.len ≡ stored.len }
+    ensures ending { result.ending ≡ stored.ending }
+    ensures lines { result.lines ≡ stored.lines }
+    ensures brief { (file : FileValue) (row : Option RowValue) → stored.brief ≡ no_brief
         → EntersSome file entry.now row → result.brief ≡ brief_of row }
 {
     match entry {
-        Some(entry) => Stretch {
+        Some(entry) => StoredItem {
             brief: entry.brief,
-            ..stretch
+            ..stored
         },
-        None => stretch,
+        None => stored,
     }
 }
 
@@ -118,7 +118,7 @@ impl<'a> Loading<'a> {
     }
 
     /// Where the items stand in the text, each with the code points of its row.
-    pub fn into_items(self) -> PartList<Stretch>
+    pub fn into_items(self) -> PartList<StoredItem>
         requires { IsSound self }
         ensures items { map (stored_at self.entry.file self.entry.text.now) (now_in result)
             ≡ items_above self.entry }
@@ -130,25 +130,25 @@ impl<'a> Loading<'a> {
     }
 
     /// Puts one more item behind the others.
-    fn put(&mut self, stretch: Stretch, entry: &Option<Entry>) -> Result<(), Memory>
+    fn put(&mut self, stored: StoredItem, entry: &Option<LoadedRow>) -> Result<(), Memory>
         requires sound { IsSound self.old }
-        requires item { IsItem self.old.file self.old.text.now stretch }
+        requires item { IsItem self.old.file self.old.text.now stored }
         requires ends { length (bytes_of (items_above self.old)) + length
-            (file_item_bytes (item_at self.old.file self.old.text.now stretch)) < 2 ^ 32 }
-        requires fits { lines_of (items_above self.old) + stretch.lines < 2 ^ 32 }
+            (file_item_bytes (item_at self.old.file self.old.text.now stored)) < 2 ^ 32 }
+        requires fits { lines_of (items_above self.old) + stored.lines < 2 ^ 32 }
         requires enters { EntersSome self.old.file entry.now
-            (item_at self.old.file self.old.text.now stretch).row }
+            (item_at self.old.file self.old.text.now stored).row }
         ensures sound { OnOk result (IsSound self.new) }
         ensures progress { OnOk result
             (progress_of self.new
             ≡ with_item (progress_of self.old)
-            (item_at self.old.file self.old.text.now stretch)) }
+            (item_at self.old.file self.old.text.now stored)) }
     {
-        let tag = content_tag(self.file, content_in(self.text, stretch));
-        let item = spanned(stretch, tag, entry, self.before);
+        let tag = content_tag(self.file, content_in(self.text, stored));
+        let item = entry_of_item(stored, tag, entry, self.before);
         self.before = start_with(self.before, entry);
-        self.end += stretch.len + ending_len(stretch.ending);
-        self.lines += u32::from(stretch.lines);
+        self.end += stored.len + ending_len(stored.ending);
+        self.lines += u32::from(stored.lines);
         self.items.push(item)?;
         Ok(())
     }
@@ -158,7 +158,7 @@ impl<'a> Loading<'a> {
     ///
     /// - `Fault { line, rule }`: the piece breaks a rule by itself. The line is counted from 1.
     /// - `Memory`: memory ran out.
-    fn take(&mut self, alloc: Global, piece: Piece<'a>) -> Result<Option<Entry>, LoadStop>
+    fn take(&mut self, alloc: Global, piece: Piece<'a>) -> Result<Option<LoadedRow>, LoadStop>
         requires sound { IsSound self.old }
         requires fits { lines_of (items_above self.old) + piece_lines
             (piece_of piece) + 1 < 2 ^ 32 }
@@ -171,7 +171,7 @@ impl<'a> Loading<'a> {
         ensures piece { ReadsPiece self.old.file (self.old.lines + 1)
             (piece_of piece.entry) result }
     {
-        let unread = stretch_of(self.end, piece);
+        let unread = stored_item_of(self.end, piece);
         let content = content_of(self.text, unread, piece);
         let line = self.lines + 1;
         let entry = read_piece(alloc, self.file, line, piece, content, &mut self.tail)?;

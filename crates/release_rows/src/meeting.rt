@@ -1,8 +1,8 @@
 //! Looks for the entries of a file that share a code point with some of the spans.
 
 use crate::span_order::SpanOrder;
-use crate::stretch::Stretch;
-use part_list::{Reach, Seek, Spanned};
+use crate::stored_item::StoredItem;
+use part_list::{Entry, Reach, Seek};
 
 /// Passes the entries whose code points, from the first to the last one, share one with some of the spans.
 #[derive(Clone, Copy)]
@@ -11,12 +11,12 @@ pub struct Meeting<'a> {
     pub spans: &'a SpanOrder,
 }
 
-impl<'a> Seek<Stretch> for Meeting<'a> {
+impl<'a> Seek<StoredItem> for Meeting<'a> {
     ghost use Rattle.release_rows.specs.Meetings.{entry_meets};
 
     ghost passing = { λ meeting. entry_meets meeting.spans.now };
 
-    fn passes(&self, entry: &Spanned<Stretch>) -> bool {
+    fn passes(&self, entry: &Entry<StoredItem>) -> bool {
         self.spans.meets(entry.code, entry.last)
     }
 

@@ -11,7 +11,7 @@ ghost use Rattle.release_rows.specs.Noted.{AreNoted, RowNoted};
 ghost use Rattle.release_rows.specs.StoredItems.{IsStored, stored_at};
 
 use crate::hash::{content_hash, group_hash};
-use crate::stretch::{Stretch, content_in};
+use crate::stored_item::{StoredItem, content_in};
 use part_list::{Entries, PartList, SeenNumbers};
 use source_rows::{content_group, contents_have_keys};
 use std::alloc::Global;
@@ -47,7 +47,7 @@ fn note_all(
     seen_hashes: &mut SeenNumbers,
     file: SourceFile,
     text: &[u8],
-    mut entries: Entries<'_, Stretch>,
+    mut entries: Entries<'_, StoredItem>,
 )
     requires { All (IsStored file text.now) entries }
     ensures noted { AreNoted file seen_hashes.new (map (stored_at file text.now) entries.entry) }
@@ -63,7 +63,7 @@ pub fn hashes_of(
     alloc: Global,
     file: SourceFile,
     text: &[u8],
-    items: &PartList<Stretch>,
+    items: &PartList<StoredItem>,
 ) -> SeenNumbers
     requires now { All (IsStored file text.now) (now_in items.now) }
     requires next { All (IsStored file text.now) (next_in items.now) }

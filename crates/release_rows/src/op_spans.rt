@@ -6,8 +6,8 @@ ghost use Rattle.source_rows.specs.KeyNames.{has_code};
 ghost use Rattle.release_rows.specs.StoredItems.{IsStored, stored_at};
 ghost use Rattle.release_rows.specs.Operations.{row_spans, spans_of};
 
-use crate::stretch::Stretch;
-use part_list::Spanned;
+use crate::stored_item::StoredItem;
+use part_list::Entry;
 use source_rows::{Key, rows_are_ok, rows_are_read};
 use std::alloc::Global;
 use ucd_facts::{Memory, Point, Row, SourceFile, Span, Spans};
@@ -61,7 +61,7 @@ fn one_span(alloc: Global, lo: u32, hi: u32) -> Result<Spans, Memory>
 pub fn entry_spans(
     alloc: Global,
     file: SourceFile,
-    entry: &Spanned<Stretch>,
+    entry: &Entry<StoredItem>,
 ) -> Result<Spans, Memory>
     ensures { (text : List ℕ) → IsStored file text entry.now
         → is_some (stored_at file text entry.now).row ≡ true
@@ -79,7 +79,7 @@ pub fn entry_spans(
 pub fn both_spans(
     alloc: Global,
     file: SourceFile,
-    entry: &Spanned<Stretch>,
+    entry: &Entry<StoredItem>,
     row: &Row,
 ) -> Result<Spans, Memory>
     ensures { (text : List ℕ) → IsStored file text entry.now

@@ -9,7 +9,7 @@ ghost use Rattle.release_rows.specs.Pieces.{pieces, opens_range, piece_bytes, pi
 ghost use Rattle.release_rows.specs.StoredItems.{content_at, piece_of};
 
 use crate::brief::Brief;
-use crate::stretch::{Stretch, content_in};
+use crate::stored_item::{StoredItem, content_in};
 use source_rows::begins_range;
 use ucd_facts::SourceFile;
 use ucd_lines::{Ending, Item, Items, is_trivia};
@@ -75,14 +75,14 @@ fn content_len(piece: Piece<'_>) -> usize
     }
 }
 
-/// The content, which stands at a stretch of the text. That of one line is at hand.
-pub fn content_of<'a>(text: &'a [u8], stretch: Stretch, piece: Piece<'a>) -> &'a [u8]
-    requires { content_at text.now stretch ≡ piece_content (piece_of piece) }
+/// The content, which an item says where to find in the text. That of one line is at hand.
+pub fn content_of<'a>(text: &'a [u8], stored: StoredItem, piece: Piece<'a>) -> &'a [u8]
+    requires { content_at text.now stored ≡ piece_content (piece_of piece) }
     ensures { result.now ≡ piece_content (piece_of piece.entry) }
 {
     match piece.last {
         None => piece.first.content,
-        Some(_) => content_in(text, stretch),
+        Some(_) => content_in(text, stored),
     }
 }
 
@@ -109,7 +109,7 @@ fn lines_of(piece: Piece<'_>) -> u8
 }
 
 /// Where a piece stands whose first byte has this place. Nothing is kept of its row yet.
-pub fn stretch_of(start: u32, piece: Piece<'_>) -> Stretch
+pub fn stored_item_of(start: u32, piece: Piece<'_>) -> StoredItem
     requires { length (piece_content (piece_of piece)) < 2 ^ 32 }
     ensures start { result.start ≡ start }
     ensures len { result.len ≡ length (piece_content (piece_of piece.entry)) }
@@ -119,7 +119,7 @@ pub fn stretch_of(start: u32, piece: Piece<'_>) -> Stretch
     ensures few { result.lines ≤ 2 }
     ensures brief { result.brief ≡ no_brief }
 {
-    Stretch {
+    StoredItem {
         start,
         len: content_len(piece) as u32,
         ending: ending_of(piece),

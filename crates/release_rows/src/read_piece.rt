@@ -6,10 +6,10 @@ ghost use Rattle.release_rows.specs.Pieces.{piece_content};
 ghost use Rattle.release_rows.specs.Progress.{ReadsPiece, StopsAs};
 ghost use Rattle.release_rows.specs.StoredItems.{piece_of};
 
-use crate::entry::Entry;
+use crate::load_row::load_row;
 use crate::load_stop::{LoadRule, LoadStop};
+use crate::loaded_row::LoadedRow;
 use crate::piece::Piece;
-use crate::read_entry::read_entry;
 use source_rows::{FieldsCache, RowFault, RowStop, read_row_ref};
 use std::alloc::Global;
 use ucd_facts::SourceFile;
@@ -57,7 +57,7 @@ pub fn read_piece<'a>(
     piece: Piece<'a>,
     content: &'a [u8],
     above: &mut FieldsCache<'a>,
-) -> Result<Option<Entry>, LoadStop>
+) -> Result<Option<LoadedRow>, LoadStop>
     requires fits { line + 1 < 2 ^ 32 }
     requires content { content.now ≡ piece_content (piece_of piece) }
     ensures { ReadsPiece file line (piece_of piece.entry) result }
@@ -65,7 +65,7 @@ pub fn read_piece<'a>(
     if is_trivia(file, content) {
         return Ok(None);
     }
-    match read_entry(alloc, file, content, above) {
+    match load_row(alloc, file, content, above) {
         Ok(entry) => Ok(Some(entry)),
         Err(RowStop::Fault(fault)) => Err(stop_at(file, line, piece, fault)),
         Err(RowStop::Memory) => Err(LoadStop::Memory),

@@ -6,7 +6,7 @@ ghost use Rattle.release_rows.specs.Releases.{rows_at};
 ghost use Rattle.release_rows.specs.StoredItems.{stored_at, IsStored};
 
 use crate::row_text::RowText;
-use crate::stretch::{Stretch, content_in};
+use crate::stored_item::{StoredItem, content_in};
 use part_list::Entries;
 use std::marker::Model;
 use ucd_facts::SourceFile;
@@ -18,7 +18,7 @@ use ucd_lines::is_trivia;
 pub struct Rows<'a> {
     file: SourceFile,
     text: &'a [u8],
-    items: Entries<'a, Stretch>,
+    items: Entries<'a, StoredItem>,
     line: u64,
 }
 
@@ -38,7 +38,7 @@ impl<'a> Model for Rows<'a> {
 
 impl<'a> Rows<'a> {
     /// The rows of these items of a text.
-    pub(crate) fn new(file: SourceFile, text: &'a [u8], items: Entries<'a, Stretch>) -> Rows<'a>
+    pub(crate) fn new(file: SourceFile, text: &'a [u8], items: Entries<'a, StoredItem>) -> Rows<'a>
         requires each { All (IsStored file text.now) items }
         requires few { length items < 2 ^ 33 }
         ensures { result ≡ rows_at (map (stored_at file text.now) items.entry) }

@@ -3,15 +3,15 @@
 ghost use Rattle.std.specs.Prelude.{◌≡◌, ◌≤◌, List, Option, IfOk};
 ghost use Rattle.std.specs.Option.{IfSome};
 ghost use Rattle.ucd_facts.specs.declared.row.Row.{Row as RowValue};
-ghost use Rattle.release_rows.specs.Entries.{EntersSome};
+ghost use Rattle.release_rows.specs.LoadedRows.{EntersSome};
 ghost use Rattle.release_rows.specs.Keys.{is_back, last_start};
 ghost use Rattle.release_rows.specs.Loading.{rule_by};
 ghost use Rattle.release_rows.specs.Progress.{HoldsRows, TakesRow};
 
 use crate::conflict::Conflict;
-use crate::entry::Entry;
 use crate::extents::Extents;
 use crate::load_stop::LoadRule;
+use crate::loaded_row::LoadedRow;
 use ucd_facts::{Memory, SourceFile};
 
 /// Whether a code point is less than the first one of the row before, in a file where that is a fault.
@@ -44,14 +44,14 @@ pub fn take_row(
     keys: &mut Extents,
     file: SourceFile,
     before: Option<u32>,
-    entry: Option<Entry>,
+    entry: Option<LoadedRow>,
 ) -> Result<Option<LoadRule>, Memory>
     requires ordered { IfSome entry (λ e. e.place.code ≤ e.last) }
     ensures { (above : List RowValue) (row : Option RowValue) → HoldsRows file above keys.old
         → before ≡ last_start above → EntersSome file entry row
         → IfOk result (TakesRow file above row keys.new) }
 {
-    let Some(Entry { place, last, .. }) = entry else {
+    let Some(LoadedRow { place, last, .. }) = entry else {
         return Ok(None);
     };
     let back = is_back(file, before, place.code);

@@ -9,8 +9,8 @@ ghost use Rattle.release_rows.specs.Given.{ShowsGiven};
 ghost use Rattle.release_rows.specs.StoredItems.{HasRow, ShowsMissing, ShowsValue, ShowsValued, read_as};
 
 use crate::brief::Brief;
-use crate::stretch::Stretch;
-use part_list::Spanned;
+use crate::stored_item::StoredItem;
+use part_list::Entry;
 use source_rows::{
     PointValues, RowRef, ValueText, Valued, has_values, read_point_values, read_row_ref,
     read_valued, rows_are_ok, rows_are_read,
@@ -45,7 +45,7 @@ impl<'a> Model for RowText<'a> {
 
 impl<'a> RowText<'a> {
     /// The row that an entry's content is read as.
-    pub(crate) fn new(file: SourceFile, content: &'a [u8], entry: &Spanned<Stretch>) -> RowText<'a>
+    pub(crate) fn new(file: SourceFile, content: &'a [u8], entry: &Entry<StoredItem>) -> RowText<'a>
         requires { HasRow file content.now entry.now }
         ensures { result ≡ read_as file content.now }
     {

@@ -6,9 +6,9 @@ ghost use Rattle.release_rows.specs.Searches.{comes_behind, forbids, has_names, 
 ghost use Rattle.release_rows.specs.Tags.{falls_short, misses_tag, tag_fits, tag_rises, tells_order};
 
 use crate::row_key::has_spans;
-use crate::stretch::{Stretch, content_in};
+use crate::stored_item::{StoredItem, content_in};
 use crate::tag::{tells_group, tells_key, tells_order};
-use part_list::{Reach, Seek, Spanned};
+use part_list::{Entry, Reach, Seek};
 use source_rows::{compare_names, content_group};
 use std::marker::Model;
 use ucd_facts::{SourceFile, Text};
@@ -107,7 +107,7 @@ impl<'a> Search<'a> {
     }
 
     /// Whether the entry has the key that is looked for.
-    fn starts_alike(&self, entry: &Spanned<Stretch>) -> bool
+    fn starts_alike(&self, entry: &Entry<StoredItem>) -> bool
         ensures { result ≡ starts_alike self.now entry.now }
     {
         self.code == entry.code
@@ -130,7 +130,7 @@ impl<'a> Search<'a> {
     }
 
     /// Whether the entry has another key and overlaps what is looked for, and the file forbids it.
-    fn meets_another(&self, entry: &Spanned<Stretch>) -> bool
+    fn meets_another(&self, entry: &Entry<StoredItem>) -> bool
         ensures { result ≡ meets_another self.now entry.now }
     {
         self.forbids()
@@ -142,7 +142,7 @@ impl<'a> Search<'a> {
     }
 
     /// Whether the entry is of the group that is looked for.
-    fn is_alike(&self, entry: &Spanned<Stretch>) -> bool
+    fn is_alike(&self, entry: &Entry<StoredItem>) -> bool
         ensures { result ≡ is_alike self.now entry.now }
     {
         if !tag_fits(tells_group(self.file), self.tag, entry.tag) {
@@ -153,7 +153,7 @@ impl<'a> Search<'a> {
     }
 
     /// Whether the tag of the entry leaves open that it has a greater key.
-    fn tag_rises(&self, entry: &Spanned<Stretch>) -> bool
+    fn tag_rises(&self, entry: &Entry<StoredItem>) -> bool
         ensures { result ≡ tag_rises
             (tells_order self.now.file) self.now.code entry.now.code self.now.tag
             entry.now.tag }
@@ -162,7 +162,7 @@ impl<'a> Search<'a> {
     }
 
     /// Whether the entry is of the group that is looked for, and has a greater key.
-    fn comes_behind(&self, entry: &Spanned<Stretch>) -> bool
+    fn comes_behind(&self, entry: &Entry<StoredItem>) -> bool
         ensures { result ≡ comes_behind self.now entry.now }
     {
         if entry.code < self.code || !self.tag_rises(entry) || !self.is_alike(entry) {
@@ -174,12 +174,12 @@ impl<'a> Search<'a> {
     }
 }
 
-impl<'a> Seek<Stretch> for Search<'a> {
+impl<'a> Seek<StoredItem> for Search<'a> {
     ghost use Rattle.release_rows.specs.Searches.{entry_passes};
 
     ghost passing = { entry_passes };
 
-    fn passes(&self, entry: &Spanned<Stretch>) -> bool {
+    fn passes(&self, entry: &Entry<StoredItem>) -> bool {
         match self.test {
             Test::SameKey => self.starts_alike(entry),
             Test::OverlapsAnother => self.meets_another(entry),

@@ -8,8 +8,8 @@ ghost use Rattle.release_rows.specs.StoredItems.{stored_at, IsStored};
 
 use crate::copy::copied;
 use crate::op_spans::entry_spans;
-use crate::stretch::{Stretch, content_in};
-use part_list::Spanned;
+use crate::stored_item::{StoredItem, content_in};
+use part_list::Entry;
 use std::alloc::Global;
 use std::marker::Model;
 use ucd_facts::{ListOf, Memory, SourceFile, Spans, Text};
@@ -23,8 +23,8 @@ pub struct Splice {
     at: usize,
     /// The bytes of all these items.
     text: Text,
-    later: ListOf<Spanned<Stretch>>,
-    earlier: ListOf<Spanned<Stretch>>,
+    later: ListOf<Entry<StoredItem>>,
+    earlier: ListOf<Entry<StoredItem>>,
 }
 
 impl Model for Splice {
@@ -47,7 +47,7 @@ fn put_spans(
     alloc: Global,
     file: SourceFile,
     text: &[u8],
-    entries: &[Spanned<Stretch>],
+    entries: &[Entry<StoredItem>],
     spans: &mut Spans,
 ) -> Result<(), Memory>
     requires { All (IsStored file text.now) entries.now }
@@ -69,7 +69,7 @@ fn put_entry_spans(
     alloc: Global,
     file: SourceFile,
     text: &[u8],
-    entry: &Spanned<Stretch>,
+    entry: &Entry<StoredItem>,
     spans: &mut Spans,
 ) -> Result<(), Memory>
     requires { IsStored file text.now entry.now }
@@ -87,13 +87,13 @@ impl Splice {
     /// Entries of a text that stand from a place on, and those that stood there before.
     ///
     /// - `Memory`: memory ran out, or they have 2^32 bytes or more.
-    pub(crate) fn of(
+    pub(crate) fn copied_from(
         alloc: Global,
         file: SourceFile,
         text: &[u8],
         at: usize,
-        later: &[Spanned<Stretch>],
-        earlier: &[Spanned<Stretch>],
+        later: &[Entry<StoredItem>],
+        earlier: &[Entry<StoredItem>],
     ) -> Result<Splice, Memory>
         requires later { All (IsStored file text.now) later.now }
         requires earlier { All (IsStored file text.now) earlier.now }
@@ -141,7 +141,7 @@ impl Splice {
     }
 
     /// The entries that stood there before, and in front of them the text that they stand in.
-    pub(crate) fn earlier(&self) -> (&[u8], &[Spanned<Stretch>])
+    pub(crate) fn earlier(&self) -> (&[u8], &[Entry<StoredItem>])
         ensures stored { All (IsStored self.now.file result.0.now) result.1.now }
         ensures items { map (stored_at self.now.file result.0.now) result.1.now ≡ self.now.earlier }
     {

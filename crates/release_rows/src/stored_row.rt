@@ -12,9 +12,9 @@ ghost use Rattle.release_rows.specs.StoredItems.{stored_at, IsStored};
 use crate::brief::Brief;
 use crate::noted::note_hashes;
 use crate::row_key::{row_last, row_start};
-use crate::stretch::Stretch;
+use crate::stored_item::StoredItem;
 use crate::tag::content_tag;
-use part_list::{SeenNumbers, Spanned};
+use part_list::{Entry, SeenNumbers};
 use source_rows::{rows_are_no_trivia, rows_are_read};
 use ucd_facts::{Memory, Row, SourceFile, Text};
 use ucd_lines::Ending;
@@ -29,7 +29,7 @@ fn lines_in(bytes: &[u8]) -> u8
 /// Where bytes have their place at the end of a text: the text's length and theirs.
 ///
 /// - `Memory`: the text would have 2^32 bytes or more.
-pub fn stretch_behind(text: &[u8], bytes: &[u8]) -> Result<(u32, u32), Memory>
+pub fn place_behind(text: &[u8], bytes: &[u8]) -> Result<(u32, u32), Memory>
     ensures { IfOk result (λ place. (place.0 ≡ length text.now) × (place.1 ≡ length bytes.now)) }
 {
     let (Ok(start), Ok(len)) = (u32::try_from(text.len()), u32::try_from(bytes.len())) else {
@@ -51,7 +51,7 @@ pub fn store_row(
     row: &Row,
     bytes: &[u8],
     ending: Ending,
-) -> Result<Spanned<Stretch>, Memory>
+) -> Result<Entry<StoredItem>, Memory>
     requires { row_or_fault file bytes.now ≡ Ok row.now }
     ensures ok { OnOk result (text.new ≡ text.old ++ bytes.now) }
     ensures stored { IfOk result (λ entry. IsStored file text.new entry) }
@@ -64,16 +64,16 @@ pub fn store_row(
     rows_are_read();
     rows_are_no_trivia();
     note_hashes(seen_hashes, file, row_start(row), bytes);
-    let (start, len) = stretch_behind(text.as_slice(), bytes)?;
+    let (start, len) = place_behind(text.as_slice(), bytes)?;
     text.append(bytes)?;
-    let item = Stretch {
+    let item = StoredItem {
         start,
         len,
         ending,
         lines: lines_in(bytes),
         brief: Brief::of_row(row),
     };
-    Ok(Spanned {
+    Ok(Entry {
         code: row_start(row),
         last: row_last(row),
         tag: content_tag(file, bytes),

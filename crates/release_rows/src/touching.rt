@@ -11,8 +11,8 @@ use crate::meeting::Meeting;
 use crate::op_spans::has_code;
 use crate::row_text::RowText;
 use crate::span_order::SpanOrder;
-use crate::stretch::{Stretch, content_in};
-use part_list::{PartList, Passing, Spanned};
+use crate::stored_item::{StoredItem, content_in};
+use part_list::{Entry, PartList, Passing};
 use source_rows::{rows_are_ok, rows_are_read};
 use std::alloc::Global;
 use ucd_facts::{Memory, SourceFile, Span};
@@ -25,7 +25,7 @@ fn put_row<'a>(
     rows: &mut Vec<RowText<'a>>,
     file: SourceFile,
     text: &'a [u8],
-    entry: &Spanned<Stretch>,
+    entry: &Entry<StoredItem>,
 ) -> Result<(), Memory>
     requires { IsStored file text.now entry.now }
     ensures { OnOk result (rows.new.items ≡ rows.old.items
@@ -46,7 +46,7 @@ fn passing_rows<'a>(
     alloc: Global,
     file: SourceFile,
     text: &'a [u8],
-    mut items: Passing<'_, Stretch, Meeting<'_>>,
+    mut items: Passing<'_, StoredItem, Meeting<'_>>,
 ) -> Result<Vec<RowText<'a>>, Memory>
     requires { All (IsStored file text.now) items }
     ensures { IfOk result (λ rows. rows.items
@@ -67,7 +67,7 @@ pub fn touching_rows<'a>(
     alloc: Global,
     file: SourceFile,
     text: &'a [u8],
-    items: &PartList<Stretch>,
+    items: &PartList<StoredItem>,
     spans: &[Span],
 ) -> Result<Vec<RowText<'a>>, Memory>
     requires { All (IsStored file text.now) (next_in items.now) }

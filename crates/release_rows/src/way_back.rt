@@ -8,7 +8,7 @@ ghost use Rattle.release_rows.specs.StoredItems.{stored_at, IsStored};
 
 use crate::difference::put_difference;
 use crate::patch::Patch;
-use crate::stretch::Stretch;
+use crate::stored_item::StoredItem;
 use part_list::PartList;
 use std::alloc::Global;
 use ucd_facts::{Memory, SourceFile};
@@ -20,7 +20,7 @@ fn put_part(
     alloc: Global,
     file: SourceFile,
     text: &[u8],
-    items: &PartList<Stretch>,
+    items: &PartList<StoredItem>,
     slot: usize,
     at: usize,
     patch: &mut Patch,
@@ -50,7 +50,7 @@ pub fn put_way_back(
     alloc: Global,
     file: SourceFile,
     text: &[u8],
-    items: &PartList<Stretch>,
+    items: &PartList<StoredItem>,
     patch: &mut Patch,
 ) -> Result<(), Memory>
     requires now { All (IsStored file text.now) (now_in items.now) }

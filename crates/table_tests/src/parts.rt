@@ -3,7 +3,7 @@
 ghost use Rattle.std.specs.Prelude.{◌<◌, nat_eq, vec_len};
 ghost use Rattle.part_list.specs.Parts.{IsEntry};
 
-use part_list::{Entries, PartList, Reach, Seek, Spanned, Spot};
+use part_list::{Entries, Entry, PartList, Reach, Seek, Spot};
 use std::alloc::Global;
 use std::process::Abort;
 use ucd_facts::Memory;
@@ -17,7 +17,7 @@ struct Code {
 impl Seek<u32> for Code {
     ghost passing = { λ seek entry. nat_eq entry.code seek.code };
 
-    fn passes(&self, entry: &Spanned<u32>) -> bool {
+    fn passes(&self, entry: &Entry<u32>) -> bool {
         entry.code == self.code
     }
 
@@ -31,9 +31,9 @@ impl Seek<u32> for Code {
 }
 
 /// An entry of the code points from `code` to `code + 2`.
-fn entry(code: u32) -> Spanned<u32> {
+fn entry(code: u32) -> Entry<u32> {
     let code = code % 0x11_0000;
-    Spanned {
+    Entry {
         code,
         last: code + 2,
         tag: code,

@@ -17,10 +17,10 @@ abbrev pub IsOpen : Bool → List ℕ → Type 0
 IsOpen b [] = b ≡ true
 IsOpen b (x ∷ xs) = IsOpen (not b) xs
 
-pub record IsRising (starts : Bool) (edges : List ℕ) (low end : ℕ) (p : ℕ → Bool) : Type 0 where
-  pub opens : IsOpen starts edges
+pub record IsRising (has_zero : Bool) (edges : List ℕ) (low end : ℕ) (p : ℕ → Bool) : Type 0 where
+  pub opens : IsOpen has_zero edges
   pub rises : Rises low (edges ++ end ∷ [])
-  pub has : (c : ℕ) → inside starts (edges ++ end ∷ []) c ≡ p c
+  pub has : (c : ℕ) → inside has_zero (edges ++ end ∷ []) c ≡ p c
 
 -- ---- one more
 
@@ -64,10 +64,10 @@ step b (x ∷ xs) low end span opened rises behind le =
       ];
     }
 
-one_more : (starts : Bool) (edges : List ℕ) (end : ℕ) (p q : ℕ → Bool) (span : Bounds) → IsRising starts edges 1 end p → end ≤ span.lo → span.lo ≤ span.hi
-    → ((c : ℕ) → q c ≡ (p c || within c span)) → IsRising starts (edges ++ gap end span.lo) 1 (span.hi + 1) q
-one_more starts edges end p q span rising behind le more =
-    let s = step starts edges 1 end span rising.opens rising.rises behind le in
+one_more : (has_zero : Bool) (edges : List ℕ) (end : ℕ) (p q : ℕ → Bool) (span : Bounds) → IsRising has_zero edges 1 end p → end ≤ span.lo → span.lo ≤ span.hi
+    → ((c : ℕ) → q c ≡ (p c || within c span)) → IsRising has_zero (edges ++ gap end span.lo) 1 (span.hi + 1) q
+one_more has_zero edges end p q span rising behind le more =
+    let s = step has_zero edges 1 end span rising.opens rising.rises behind le in
     record {
       opens = s.opens;
       rises = s.rises;
@@ -88,7 +88,7 @@ more_has first s others i c lt here =
     ap (λ (b : Bool). within c first || b) (list_any_more (within c) others i s lt ∙ ap (λ (x : Bounds). list_any (within c) (take i others) || within c x) (sym here))
     ∙ or_assoc (within c first) (list_any (within c) (take i others)) (within c s)
 
-pub next_rises : (starts : Bool) (edges new : List ℕ) (end lo hi i : ℕ) (first s : Bounds) (others : List Bounds) → IsRising starts edges 1 end (so_far first others i)
-    → new ≡ edges ++ gap end lo → lo ≡ s.lo → hi ≡ s.hi → i < length others → s ≡ get_or others i s → s.lo ≤ s.hi → end ≤ s.lo → IsRising starts new 1 (hi + 1) (so_far first others (i + 1))
-next_rises starts edges new end lo hi i first s others rising grown from to lt here le behind =
-    rw (grown, from, to) (one_more starts edges end (so_far first others i) (so_far first others (i + 1)) s rising behind le (λ c. more_has first s others i c lt here))
+pub next_rises : (has_zero : Bool) (edges new : List ℕ) (end lo hi i : ℕ) (first s : Bounds) (others : List Bounds) → IsRising has_zero edges 1 end (so_far first others i)
+    → new ≡ edges ++ gap end lo → lo ≡ s.lo → hi ≡ s.hi → i < length others → s ≡ get_or others i s → s.lo ≤ s.hi → end ≤ s.lo → IsRising has_zero new 1 (hi + 1) (so_far first others (i + 1))
+next_rises has_zero edges new end lo hi i first s others rising grown from to lt here le behind =
+    rw (grown, from, to) (one_more has_zero edges end (so_far first others i) (so_far first others (i + 1)) s rising behind le (λ c. more_has first s others i c lt here))

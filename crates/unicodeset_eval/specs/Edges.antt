@@ -18,11 +18,11 @@ Rises low [] = Unit
 Rises low (x ∷ xs) = (low ≤ x) × Rises (x + 1) xs
 
 pub record Edges : Type 0 where
-  pub starts : Bool
+  pub has_zero : Bool
   pub edges : List ℕ
 
 abbrev pub has : Edges → ℕ → Bool
-has s c = inside s.starts s.edges c
+has s c = inside s.has_zero s.edges c
 
 abbrev pub holds : Join → Bool → Bool → Bool
 holds Union a b = a || b

@@ -1,5 +1,5 @@
 -- What the code looks at, where a definition looks at rows.
--- tells test R                what a test says by the record R alone: Assigned is every category but Cn, which no row has; the tests of
+-- passes_test test R                what a test says by the record R alone: Assigned is every category but Cn, which no row has; the tests of
 --                             derived properties are `passes`; false for the others
 -- no_points                   the set without members
 -- has_at sets k c             whether the set with number k has c; never where the number is not used
@@ -22,12 +22,12 @@ use Rattle.unicodeset_eval.specs.Edges.{Edges, has}
 use Rattle.unicodeset_eval.specs.Tests.{passes, same_truth, is_numbered, is_listed}
 use Rattle.unicodeset_eval.specs.declared.row_sets.RowSets.{RowSets}
 
-abbrev pub tells : Test → Record → Bool
-tells test.Assigned R = not (category_place R.category == category_place Cn)
-tells test R = passes test R
+abbrev pub passes_test : Test → Record → Bool
+passes_test test.Assigned R = not (category_place R.category == category_place Cn)
+passes_test test R = passes test R
 
 abbrev pub no_points : Edges
-no_points = record { starts = false; edges = [] }
+no_points = record { has_zero = false; edges = [] }
 
 abbrev pub has_at : List Edges → ℕ → ℕ → Bool
 has_at sets number c = has (slice_index_or sets number no_points) c
@@ -48,4 +48,4 @@ says R sets test.Ascii c = nat_lt c 0x80
 says R sets (test.Script number) c = has_at sets.scripts.items number c
 says R sets (test.WordBreak number) c = has_at sets.breaks.items number c
 says R sets (test.Listed number wanted) c = same_truth wanted (has_at sets.listed.items number c)
-says R sets test c = tells test (R c)
+says R sets test c = passes_test test (R c)

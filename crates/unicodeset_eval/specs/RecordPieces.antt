@@ -27,7 +27,7 @@ use Rattle.ucd_facts.specs.declared.form.Form.TheVariants.{Nfd, Nfc, Nfkd, Nfkc}
 use Rattle.ucd_facts.specs.declared.image.Image.TheVariants.{Same}
 use Rattle.property_aliases.specs.declared.property.Test.{Test}
 use Rattle.property_aliases.specs.declared.property.Test.TheVariants as test
-use Rattle.unicodeset_eval.specs.Found.{tells}
+use Rattle.unicodeset_eval.specs.Found.{passes_test}
 use Rattle.unicodeset_eval.specs.Merges.{emit}
 use Rattle.unicodeset_eval.specs.PieceSets.{piece_edges}
 use Rattle.unicodeset_eval.specs.declared.record_pieces.Piece.{Piece}
@@ -90,13 +90,13 @@ piece_turns n f b (p ∷ ps) = emit b (f p.values) p.first (piece_turns n f (f p
 
 -- ---- what holds of them
 
-quick_unfolded : (form : Form) (value : _) (R : Record) → tells (test.Quick form value) (unfolded R) ≡ tells (test.Quick form value) R
+quick_unfolded : (form : Form) (value : _) (R : Record) → passes_test (test.Quick form value) (unfolded R) ≡ passes_test (test.Quick form value) R
 quick_unfolded Nfd value R = refl
 quick_unfolded Nfc value R = refl
 quick_unfolded Nfkd value R = refl
 quick_unfolded Nfkc value R = refl
 
-pub tells_unfolded : (t : Test) (R : Record) → tells t (unfolded R) ≡ tells t R
+pub tells_unfolded : (t : Test) (R : Record) → passes_test t (unfolded R) ≡ passes_test t R
 tells_unfolded test.Any R = refl
 tells_unfolded test.Ascii R = refl
 tells_unfolded test.Assigned R = refl

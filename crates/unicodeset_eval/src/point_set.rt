@@ -20,7 +20,7 @@ use unicodeset_parser::Join;
 #[derive(Debug, Drop)]
 pub struct PointSet {
     /// Whether 0 is in.
-    starts: bool,
+    has_zero: bool,
     /// The numbers above 0 at which membership turns; they ascend.
     edges: Vec<u32>,
 }
@@ -30,7 +30,7 @@ impl Model for PointSet {
 
     ghost Value = { Edges };
 
-    ghost view = { λ s. record { starts = s.starts; edges = s.edges.items } };
+    ghost view = { λ s. record { has_zero = s.has_zero; edges = s.edges.items } };
 
     ghost invariant = { λ s. Rises 1 s.edges.items };
 }
@@ -41,17 +41,17 @@ impl PointSet {
         ensures { (c : ℕ) → has result c ≡ nothing c }
     {
         PointSet {
-            starts: false,
+            has_zero: false,
             edges: Vec::new(alloc),
         }
     }
 
     /// The set that is given by whether 0 is in, and by its edges above 0. It takes no memory.
-    pub(crate) fn of_edges(starts: bool, edges: Vec<u32>) -> PointSet
+    pub(crate) fn of_edges(has_zero: bool, edges: Vec<u32>) -> PointSet
         requires { Rises 1 edges.items }
-        ensures { result ≡ record { starts = starts; edges = edges.items } }
+        ensures { result ≡ record { has_zero = has_zero; edges = edges.items } }
     {
-        PointSet { starts, edges }
+        PointSet { has_zero, edges }
     }
 
     /// The numbers before `end`, which is not 0.
@@ -64,7 +64,7 @@ impl PointSet {
         let mut edges = Vec::new(alloc);
         edges.push(end)?;
         Ok(PointSet {
-            starts: true,
+            has_zero: true,
             edges,
         })
     }
@@ -76,7 +76,7 @@ impl PointSet {
         ensures { IfOk result (λ set. (c : ℕ) → has set c ≡ between span c) }
     {
         Ok(PointSet {
-            starts: span.first() == 0,
+            has_zero: span.first() == 0,
             edges: span_edges(alloc, span)?,
         })
     }
@@ -95,13 +95,13 @@ impl PointSet {
             → has set c ≡ joined join (has first.now) (has second.now) c) }
     {
         Ok(PointSet {
-            starts: holds(join, first.starts, second.starts),
+            has_zero: holds(join, first.has_zero, second.has_zero),
             edges: merge(
                 alloc,
                 join,
-                first.starts,
+                first.has_zero,
                 first.edges.as_slice(),
-                second.starts,
+                second.has_zero,
                 second.edges.as_slice(),
             )?,
         })
@@ -112,7 +112,7 @@ impl PointSet {
         ensures { (c : ℕ) → has result c ≡ outside (has self) c }
     {
         PointSet {
-            starts: !self.starts,
+            has_zero: !self.has_zero,
             edges: self.edges,
         }
     }
@@ -123,6 +123,6 @@ impl PointSet {
     pub fn spans(&self, alloc: Global) -> Result<Spans, Memory>
         ensures { IfOk result (λ spans. spans ≡ member_spans point_count (has self.now)) }
     {
-        spans_of(alloc, self.starts, self.edges.as_slice())
+        spans_of(alloc, self.has_zero, self.edges.as_slice())
     }
 }

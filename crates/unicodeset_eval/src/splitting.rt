@@ -28,12 +28,12 @@ fn put_piece(spans: &mut Spans, inside: bool, from: u32, end: u32) -> Result<(),
 /// The spans of a set, which is given by whether 0 is in it, and by its edges above 0.
 ///
 /// - `Memory`: memory ran out.
-pub(crate) fn spans_of(alloc: Global, starts: bool, edges: &[u32]) -> Result<Spans, Memory>
-    ensures { IfOk result (λ spans. spans ≡ pieces point_count starts 0 edges.now) }
+pub(crate) fn spans_of(alloc: Global, has_zero: bool, edges: &[u32]) -> Result<Spans, Memory>
+    ensures { IfOk result (λ spans. spans ≡ pieces point_count has_zero 0 edges.now) }
 {
     let count = point_count();
     let mut spans = Spans::new(alloc);
-    let mut inside = starts;
+    let mut inside = has_zero;
     let mut from = 0;
     'edges: for edge in edges {
         put_piece(&mut spans, inside, from, (*edge).min(count))?;

@@ -5,7 +5,7 @@ ghost use Rattle.ucd_points.specs.Limits.{point_count};
 ghost use Rattle.ucd_facts.specs.Predicates.{is_one_of};
 ghost use Rattle.ucd_model.specs.Records.{Record};
 ghost use Rattle.unicodeset_eval.specs.Edges.{has};
-ghost use Rattle.unicodeset_eval.specs.Found.{tells};
+ghost use Rattle.unicodeset_eval.specs.Found.{passes_test};
 ghost use Rattle.unicodeset_eval.specs.RecordPieces.{SaysAs, at_first, piece_turns, piece_value, values_record};
 ghost use Rattle.unicodeset_eval.specs.Tests.{check_of, group_categories};
 
@@ -71,8 +71,8 @@ fn check_of(form: Form, shown: &PropertyValues) -> Quick
 }
 
 /// What a test says of a code point with these values, if it is Assigned or a test of derived properties; else false.
-fn tells(test: Test, shown: &PropertyValues) -> bool
-    ensures { result ≡ tells test (values_record shown.now) }
+fn passes_test(test: Test, shown: &PropertyValues) -> bool
+    ensures { result ≡ passes_test test (values_record shown.now) }
 {
     match test {
         Test::Assigned => shown.category.place() != Category::Cn.place(),
@@ -90,29 +90,29 @@ fn tells(test: Test, shown: &PropertyValues) -> bool
 
 /// What a test says of the first piece.
 fn at_first(test: Test, pieces: &[Piece]) -> bool
-    ensures { result ≡ at_first (tells test) (map piece_value pieces.now) }
+    ensures { result ≡ at_first (passes_test test) (map piece_value pieces.now) }
 {
     match pieces {
-        [first, ..] => tells(test, &first.values),
+        [first, ..] => passes_test(test, &first.values),
         [] => false,
     }
 }
 
-/// The numbers at which what `says` says turns, over pieces of equal records; `starts` is what it says of the code point 0.
+/// The numbers at which what `says` says turns, over pieces of equal records; `has_zero` is what it says of the code point 0.
 ///
 /// - `Memory`: memory ran out.
 fn turns<F: Fn(&PropertyValues) -> bool>(
     alloc: Global,
     pieces: &[Piece],
-    starts: bool,
+    has_zero: bool,
     says: F,
 ) -> Result<Vec<u32>, Memory>
     requires { F.IsAlwaysCallable says }
     ensures { IfOk result (λ edges. (f : Record → Bool) → SaysAs (F.post says) f
-        → edges.items ≡ piece_turns point_count f starts (map piece_value pieces.now)) }
+        → edges.items ≡ piece_turns point_count f has_zero (map piece_value pieces.now)) }
 {
     let mut edges = Vec::new(alloc);
-    let mut inside = starts;
+    let mut inside = has_zero;
     'pieces: for piece in pieces {
         let next = says(&piece.values);
         emit(&mut edges, inside, next, piece.first)?;
@@ -122,26 +122,31 @@ fn turns<F: Fn(&PropertyValues) -> bool>(
     Ok(edges)
 }
 
-/// The numbers at which a test turns, over pieces of equal records; `starts` is what it says of the code point 0. The tests that are
+/// The numbers at which a test turns, over pieces of equal records; `has_zero` is what it says of the code point 0. The tests that are
 /// asked most have a loop each, which does not ask at each piece which test it is.
 ///
 /// - `Memory`: memory ran out.
-fn test_turns(alloc: Global, pieces: &[Piece], test: Test, starts: bool) -> Result<Vec<u32>, Memory>
+fn test_turns(
+    alloc: Global,
+    pieces: &[Piece],
+    test: Test,
+    has_zero: bool,
+) -> Result<Vec<u32>, Memory>
     ensures { IfOk result (λ edges. edges.items
-        ≡ piece_turns point_count (tells test) starts (map piece_value pieces.now)) }
+        ≡ piece_turns point_count (passes_test test) has_zero (map piece_value pieces.now)) }
 {
     match test {
-        Test::Category(category) => turns(alloc, pieces, starts, |shown| {
+        Test::Category(category) => turns(alloc, pieces, has_zero, |shown| {
             category.place() == shown.category.place()
         }),
-        Test::Class(class) => turns(alloc, pieces, starts, |shown| class == shown.class),
-        Test::Decomposition(kind) => turns(alloc, pieces, starts, |shown| {
+        Test::Class(class) => turns(alloc, pieces, has_zero, |shown| class == shown.class),
+        Test::Decomposition(kind) => turns(alloc, pieces, has_zero, |shown| {
             kind.place() == shown.kind.place()
         }),
-        Test::Core(core, wanted) => turns(alloc, pieces, starts, |shown| {
+        Test::Core(core, wanted) => turns(alloc, pieces, has_zero, |shown| {
             shown.core.has(core) == wanted
         }),
-        _ => turns(alloc, pieces, starts, |shown| tells(test, shown)),
+        _ => turns(alloc, pieces, has_zero, |shown| passes_test(test, shown)),
     }
 }
 
@@ -152,11 +157,11 @@ impl<'b, B: Records> SetIndex<'b, B> {
     pub(crate) fn set_over(&self, alloc: Global, test: Test) -> Result<PointSet, Memory>
         ensures { IfOk result (λ set. (c : ℕ)
             → has set c ≡ (nat_lt c point_count
-            && tells test (B.record_of self.now.bench.now c))) }
+            && passes_test test (B.record_of self.now.bench.now c))) }
     {
         let pieces = self.pieces;
-        let starts = at_first(test, pieces);
-        let edges = test_turns(alloc, pieces, test, starts)?;
-        Ok(PointSet::of_edges(starts, edges))
+        let has_zero = at_first(test, pieces);
+        let edges = test_turns(alloc, pieces, test, has_zero)?;
+        Ok(PointSet::of_edges(has_zero, edges))
     }
 }

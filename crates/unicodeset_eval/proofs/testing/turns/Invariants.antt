@@ -8,4 +8,4 @@ use Rattle.unicodeset_eval.proofs.testing.turns.Given as goal
 abbrev pub invariant-pieces : goal.invariant-pieces
 invariant-pieces g l =
     (f : Record → Bool) → SaysAs (goal.F-post g l.says) f
-    → l.edges.items ++ piece_turns point_count f l.inside (map piece_value (drop l.piece-index l.pieces)) ≡ piece_turns point_count f l.starts (map piece_value l.pieces)
+    → l.edges.items ++ piece_turns point_count f l.inside (map piece_value (drop l.piece-index l.pieces)) ≡ piece_turns point_count f l.has_zero (map piece_value l.pieces)

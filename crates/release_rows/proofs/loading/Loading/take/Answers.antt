@@ -10,8 +10,8 @@ use Rattle.release_rows.proofs.loading.Loading.take.Goals as goal
 pub content_of-content-requires : goal.content_of-content-requires
 content_of-content-requires c =
     let l = c.args.self.now in
-    let s = c.stretch_of-unread.result in
-    content_is l.text.now (items_above l) (piece_of c.args.piece) s c.requires.stands (c.stretch_of-unread.ensures.start ∙ c.requires.sound.ends) c.stretch_of-unread.ensures.len
+    let s = c.stored_item_of-unread.result in
+    content_is l.text.now (items_above l) (piece_of c.args.piece) s c.requires.stands (c.stored_item_of-unread.ensures.start ∙ c.requires.sound.ends) c.stored_item_of-unread.ensures.len
 
 pub returns-clause-progress : goal.returns-clause-progress
 returns-clause-progress c =
@@ -20,7 +20,7 @@ returns-clause-progress c =
     let items = items_above l in
     let s = c.with_brief.result in
     let same = c.with_brief.ensures in
-    let unread = c.stretch_of-unread.ensures in
+    let unread = c.stored_item_of-unread.ensures in
     let start : s.start ≡ length (bytes_of items) = same.start ∙ unread.start ∙ c.requires.sound.ends in
     let item = item_is l.file l.text.now s p (content_is l.text.now items p s c.requires.stands start (same.len ∙ unread.len)) (ap ending_of same.ending ∙ unread.ending) (same.lines ∙ unread.lines) in
     c.in_ok-put.ensures.progress ∙ ap (with_item (progress_of l)) item

@@ -7,5 +7,5 @@ use Rattle.unicodeset_eval.proofs.point_set.PointSet.spans.Goals as goal
 
 pub returns : goal.returns
 returns c =
-    let is = pieces_are point_count c.self.inside.starts c.self.inside.edges.items c.self.invariant ∙ ap (λ s. member_spans point_count (has s)) c.self.view_is in
+    let is = pieces_are point_count c.self.inside.has_zero c.self.inside.edges.items c.self.invariant ∙ ap (λ s. member_spans point_count (has s)) c.self.view_is in
     rw (c.as_slice.ensures.value, is) at c.spans_of.ensures

@@ -9,7 +9,7 @@ use ucd_lines::Ending;
 /// A line of trivia, or the lines of a row: where the content stands in the text of the file, what ends it, and how
 /// many lines it has, 1 or 2.
 #[derive(Clone, Copy, Debug)]
-pub struct Stretch {
+pub struct StoredItem {
     /// The place of the first byte, counted from 0.
     pub start: u32,
     /// How many bytes the content has.
@@ -43,8 +43,8 @@ fn front(text: &[u8], len: usize) -> &[u8]
 }
 
 /// The content of an item in the text of its file.
-pub fn content_in(text: &[u8], stretch: Stretch) -> &[u8]
-    ensures { result.now ≡ content_at text.now stretch }
+pub fn content_in(text: &[u8], stored: StoredItem) -> &[u8]
+    ensures { result.now ≡ content_at text.now stored }
 {
-    front(behind(text, stretch.start as usize), stretch.len as usize)
+    front(behind(text, stored.start as usize), stored.len as usize)
 }

@@ -1,7 +1,7 @@
 use Rattle.std.proofs.Common.{sym, ◌∙◌}
 use Rattle.std.proofs.lemmas.Bool.{not-true}
 use Rattle.release_rows.proofs.MeetingEntries.{misses_all}
-use Rattle.release_rows.proofs.meeting.MeetingSeekStretch.skips.Goals as goal
+use Rattle.release_rows.proofs.meeting.MeetingSeekStoredItem.skips.Goals as goal
 
 -- an entry within the bounds is no wider than they are
 pub returns : goal.returns

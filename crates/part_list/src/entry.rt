@@ -2,7 +2,7 @@
 
 /// An item with the code points that it speaks of, and a number that tells some of what it is.
 #[derive(Clone, Copy, Debug)]
-pub struct Spanned<T> {
+pub struct Entry<T> {
     /// The first code point, as a number.
     pub code: u32,
     /// The last code point, as a number.

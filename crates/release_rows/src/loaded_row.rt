@@ -5,7 +5,7 @@ use crate::sort_key::SortKey;
 
 /// The key of a row, its last code points, and what is kept of what the row gives.
 #[derive(Drop)]
-pub struct Entry {
+pub struct LoadedRow {
     /// The key.
     pub place: SortKey,
     /// The last code point that no other row may have, not less than the first.

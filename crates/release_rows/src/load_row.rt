@@ -5,11 +5,11 @@ ghost use Rattle.ucd_facts.specs.RowValues.{RowOk};
 ghost use Rattle.source_rows.specs.Faults.{row_or_fault};
 ghost use Rattle.source_rows.specs.Keys.{row_span};
 ghost use Rattle.source_rows.specs.RowRefs.{row_in};
-ghost use Rattle.release_rows.specs.Entries.{EntersAs};
+ghost use Rattle.release_rows.specs.LoadedRows.{EntersAs};
 ghost use Rattle.release_rows.specs.Keys.{row_end};
 
 use crate::brief::Brief;
-use crate::entry::Entry;
+use crate::loaded_row::LoadedRow;
 use crate::row_key::{has_spans, key_text};
 use crate::sort_key::SortKey;
 use source_rows::{
@@ -50,7 +50,7 @@ fn row_extent(file: SourceFile, row: &RowRef<'_>) -> (u32, u32)
 }
 
 /// What is kept of a row.
-fn entry_of(alloc: Global, file: SourceFile, row: RowRef<'_>) -> Result<Entry, RowStop>
+fn loaded_row_of(alloc: Global, file: SourceFile, row: RowRef<'_>) -> Result<LoadedRow, RowStop>
     requires { RowOk file (row_in row) }
     ensures { EntersAs file result (Ok (row_in row.entry)) }
 {
@@ -58,7 +58,7 @@ fn entry_of(alloc: Global, file: SourceFile, row: RowRef<'_>) -> Result<Entry, R
     let (_, reach) = row_points(&row);
     let brief = Brief::of_row_ref(&row);
     let names = key_text(alloc, file, row)?;
-    Ok(Entry {
+    Ok(LoadedRow {
         place: SortKey { names, code },
         last,
         reach,
@@ -67,28 +67,28 @@ fn entry_of(alloc: Global, file: SourceFile, row: RowRef<'_>) -> Result<Entry, R
 }
 
 /// What is kept of a row of any file. Only the texts of its key are copied.
-fn row_entry(alloc: Global, file: SourceFile, content: &[u8]) -> Result<Entry, RowStop>
+fn load_other_row(alloc: Global, file: SourceFile, content: &[u8]) -> Result<LoadedRow, RowStop>
     ensures { EntersAs file result (row_or_fault file content.now) }
 {
     rows_are_read();
     rows_are_ok();
     match read_row_ref(file, content) {
-        Ok(row) => entry_of(alloc, file, row),
+        Ok(row) => loaded_row_of(alloc, file, row),
         Err(fault) => Err(RowStop::Fault(fault)),
     }
 }
 
 /// What is kept of a row of UnicodeData.txt. Its texts are not copied.
-fn data_entry<'a>(
+fn load_data_row<'a>(
     alloc: Global,
     content: &'a [u8],
     above: &mut FieldsCache<'a>,
-) -> Result<Entry, RowStop>
+) -> Result<LoadedRow, RowStop>
     ensures { EntersAs SourceFile.UnicodeData result
         (row_or_fault SourceFile.UnicodeData content.now) }
 {
     let given = read_below(content, above)?;
-    Ok(Entry {
+    Ok(LoadedRow {
         place: SortKey {
             names: Vec::new(alloc),
             code: given.span.first(),
@@ -103,16 +103,16 @@ fn data_entry<'a>(
 ///
 /// - `Fault(fault)`: the content is no row, and `fault` is the first rule that it breaks.
 /// - `Memory`: memory ran out.
-pub fn read_entry<'a>(
+pub fn load_row<'a>(
     alloc: Global,
     file: SourceFile,
     content: &'a [u8],
     above: &mut FieldsCache<'a>,
-) -> Result<Entry, RowStop>
+) -> Result<LoadedRow, RowStop>
     ensures { EntersAs file result (row_or_fault file content.now) }
 {
     match file {
-        SourceFile::UnicodeData => data_entry(alloc, content, above),
-        _ => row_entry(alloc, file, content),
+        SourceFile::UnicodeData => load_data_row(alloc, content, above),
+        _ => load_other_row(alloc, file, content),
     }
 }

@@ -1,4 +1,4 @@
-use Rattle.release_rows.proofs.read_entry.entry_of.Goals as goal
+use Rattle.release_rows.proofs.load_row.loaded_row_of.Goals as goal
 
 pub returns : goal.returns
 returns c = record {

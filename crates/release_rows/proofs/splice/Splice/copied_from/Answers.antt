@@ -3,7 +3,7 @@ use Rattle.release_rows.specs.FileItems.{FileItem}
 use Rattle.release_rows.specs.Patches.{SpliceItems}
 use Rattle.release_rows.specs.StoredItems.{stored_at}
 use Rattle.release_rows.proofs.Backward.{copies_kept}
-use Rattle.release_rows.proofs.splice.Splice.of.Goals as goal
+use Rattle.release_rows.proofs.splice.Splice.copied_from.Goals as goal
 
 pub returns : goal.returns
 returns c =

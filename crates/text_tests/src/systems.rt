@@ -1,7 +1,7 @@
 //! The shelf of a system and the sink of a writer at work: on real files, and on readers, writers and a system that
 //! were made for it.
 
-ghost use Rattle.std.specs.Prelude.{◌≡◌, ◌≤◌, IsErrAnd, OnErr, true, if◌then◌else◌, bytes_eq, codes};
+ghost use Rattle.std.specs.Prelude.{◌≡◌, ◌≤◌, IsErrAnd, OnErr, OnOk, false, true, if◌then◌else◌, bytes_eq, codes};
 ghost use Rattle.std.specs.IoError.{error_kind};
 ghost use Rattle.shelf_io.specs.Counts.{Rose};
 
@@ -138,6 +138,7 @@ impl Parts {
     /// A step of a write, which fails if it is the one to stop at.
     fn step(&mut self, number: u8) -> io::Result<()>
         ensures failed { OnErr result (Rose self.old.faults self.new.faults) }
+        ensures uncounted { OnOk result (self.new.faults ≡ self.old.faults) }
         ensures never_falls { self.old.faults ≤ self.new.faults }
     {
         if number == self.stops_at {
@@ -147,9 +148,10 @@ impl Parts {
         Ok(())
     }
 
-    /// Counts a call that failed.
+    /// Counts a call if it failed.
     fn count(&mut self, failed: bool)
         ensures failed { failed ≡ true → Rose self.old.faults self.new.faults }
+        ensures uncounted { failed ≡ false → self.new.faults ≡ self.old.faults }
         ensures never_falls { self.old.faults ≤ self.new.faults }
     {
         if failed {
@@ -201,7 +203,7 @@ impl System for Parts {
 
     fn write(&mut self, file: &mut Narrow, buf: &[u8]) -> io::Result<usize> {
         let answer = file.write(buf);
-        let takes = matches!(answer, Ok(taken) if taken > 0);
+        let takes = matches!(answer, Ok(taken) if taken > 0 || buf.is_empty());
         self.count(!takes);
         answer
     }

@@ -7,7 +7,7 @@ ghost use Rattle.ucd_model.specs.Labels.{labelled};
 ghost use Rattle.ucd_points.specs.Limits.{point_count};
 ghost use Rattle.age_chain.specs.Ages.{SameChain, StandsFor, age, age_label, age_text, ages_in, breaks_since};
 
-use crate::giving::prepare_next;
+use crate::giving::prepare_ages;
 use crate::listing::{count_aged, put_ages};
 use edit_session::Bench;
 use range_table::{RunTable, Table};
@@ -65,7 +65,7 @@ impl Chain {
         ensures err { OnErr result (SameChain self.new self.old) }
     {
         let count = self.count + 1;
-        let breaks = prepare_next(alloc, &self.last, &bench, count as u8, &mut self.ages)?;
+        let breaks = prepare_ages(alloc, &self.last, &bench, count as u8, &mut self.ages)?;
         self.ages.commit();
         self.last = Some(bench);
         self.count = count;

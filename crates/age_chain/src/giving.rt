@@ -18,7 +18,7 @@ use ucd_model::{FactView, Memory, Point, Span};
 /// one next. Ages are numbers from 1, and 0 stands for none.
 ///
 /// - `Memory`: memory ran out. Nothing is then prepared.
-pub fn prepare_next(
+pub fn prepare_ages(
     alloc: Global,
     last: &Option<Bench>,
     bench: &Bench,
@@ -76,7 +76,7 @@ fn give_ages(bench: &Bench, age: u8, ages: &mut RunTable<u8>) -> Result<(), Memo
 {
     let mut number = 0;
     'stretches: while number < Point::COUNT {
-        let last = give_from(bench, Point::at(number), age, ages)?;
+        let last = give_age_to_stretch(bench, Point::at(number), age, ages)?;
         number = last.number() + 1;
     }
     Ok(())
@@ -86,7 +86,12 @@ fn give_ages(bench: &Bench, age: u8, ages: &mut RunTable<u8>) -> Result<(), Memo
 /// the stretch. The code points of a stretch have one age, or none and facts that are alike.
 ///
 /// - `Memory`: memory ran out. What is next stays.
-fn give_from(bench: &Bench, c: Point, age: u8, ages: &mut RunTable<u8>) -> Result<Point, Memory>
+fn give_age_to_stretch(
+    bench: &Bench,
+    c: Point,
+    age: u8,
+    ages: &mut RunTable<u8>,
+) -> Result<Point, Memory>
     requires before { SameValues (values_next ages.old)
         (aged_before bench.now age c (values_now ages.old)) }
     ensures now { SameValues (values_now ages.new) (values_now ages.old) }
@@ -98,7 +103,7 @@ fn give_from(bench: &Bench, c: Point, age: u8, ages: &mut RunTable<u8>) -> Resul
     if ages.get(c) != 0 {
         return Ok(run);
     }
-    let last = nearer(bench.last_uniform(c), run);
+    let last = lesser(bench.last_uniform(c), run);
     if bench.is_assigned(c) {
         ages.prepare(Span::between(c, last), age)?;
     }
@@ -106,7 +111,7 @@ fn give_from(bench: &Bench, c: Point, age: u8, ages: &mut RunTable<u8>) -> Resul
 }
 
 /// The lesser of two code points.
-fn nearer(a: Point, b: Point) -> Point
+fn lesser(a: Point, b: Point) -> Point
     ensures { result ≡ min a b }
 {
     if a.number() < b.number() { a } else { b }

@@ -49,5 +49,5 @@ fn set_age(alloc: Global, age: u8, label: &mut LabelText) -> Result<(), Memory>
         return Ok(());
     }
     let digits = age.to_string(alloc)?;
-    label.list(digits.as_bytes())
+    label.set_value(digits.as_bytes())
 }

@@ -28,7 +28,7 @@ impl RowKey {
             (key_parts self.now) }
     {
         file.place() == self.file as usize
-            && start_of(key.code) == self.start
+            && code_plus_one(key.code) == self.start
             && are_same(key.names.as_slice(), self.names.as_slice())
     }
 }
@@ -49,7 +49,7 @@ fn are_same(names: &[Text], others: &[Vec<u8>]) -> bool
 }
 
 /// One more than the code point; 0 if there is none.
-fn start_of(code: Option<Point>) -> u32
+fn code_plus_one(code: Option<Point>) -> u32
     ensures { result ≡ start_of code }
 {
     match code {
@@ -74,14 +74,14 @@ fn copied_names(alloc: Global, names: &[Text]) -> Result<Vec<Vec<u8>>, Memory>
 /// A file and a key.
 ///
 /// - `Memory`: memory ran out.
-fn key_in(alloc: Global, file: SourceFile, key: &Key) -> Result<RowKey, Memory>
+fn row_key_of(alloc: Global, file: SourceFile, key: &Key) -> Result<RowKey, Memory>
     ensures { IfOk result (λ found. key_parts found
         ≡ row_parts (record { file = file; key = key.now })) }
 {
     let names = copied_names(alloc, key.names.as_slice())?;
     Ok(RowKey {
         file: file.place() as u8,
-        start: start_of(key.code),
+        start: code_plus_one(key.code),
         names,
     })
 }
@@ -94,9 +94,9 @@ pub fn key_of_op(alloc: Global, op: &Op) -> Result<RowKey, Memory>
 {
     match op {
         Op::Add { file, row, .. } | Op::Change { file, row, .. } => {
-            key_in(alloc, *file, &row_key(alloc, *file, row)?)
+            row_key_of(alloc, *file, &row_key(alloc, *file, row)?)
         }
-        Op::Withdraw { file, key } => key_in(alloc, *file, key),
+        Op::Withdraw { file, key } => row_key_of(alloc, *file, key),
     }
 }
 

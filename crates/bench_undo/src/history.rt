@@ -120,7 +120,7 @@ impl History {
     pub fn bench(&self) -> &Bench
         ensures { result.now ≡ record { current = self.now.files; prepared = self.now.files } }
     {
-        self.bench.is_still();
+        self.bench.has_nothing_prepared();
         &self.bench
     }
 

@@ -21,7 +21,7 @@ use bstr::ByteSlice;
 use edit_session::{ApplyStop, Bench, Refused};
 use property_aliases::Aliases;
 use release_rows::Op;
-use run_endings::{Stop, gather};
+use run_endings::{Stop, read_inputs};
 use run_inputs::{open_folder, source_paths};
 use script_lines::{Command, Commands, ScriptStop, What, commands, groups_are_ready};
 use shelf_io::{DiskShelf, Shelf, words_of};
@@ -63,7 +63,7 @@ fn use_bench<L: Ledger>(rt: HostRuntime, folder: &[u8], blank: Blank) -> Result<
     let script = script(alloc)?;
     let mut steps = Steps::<L>::new(blank);
     let mut files = DiskShelf::new(rt);
-    let mut bench = open(alloc, &mut files, folder, &mut steps).map_err(told)?;
+    let mut bench = open(alloc, &mut files, folder, &mut steps).map_err(error_of_stop)?;
     carry_out(&rt, alloc, &mut bench, script.as_slice(), &mut steps)
 }
 
@@ -77,13 +77,13 @@ fn open<S: Shelf, L: Ledger>(
     steps: &mut Steps<L>,
 ) -> Result<Bench, Stop> {
     let paths = source_paths(alloc, folder)?;
-    let mut texts = gather(alloc, shelf, paths.as_slice())?;
+    let mut texts = read_inputs(alloc, shelf, paths.as_slice())?;
     open_folder(alloc, folder, &mut texts, 0, steps)
 }
 
 /// Why there is no bench, as an error, which keeps the first 120 bytes of a line. That of a refusal names the file, its line and the
 /// rule that it breaks.
-fn told(stop: Stop) -> Error {
+fn error_of_stop(stop: Stop) -> Error {
     match stop {
         Stop::Refused(line) | Stop::ReadFailed(line) => {
             anyhow!("{}", line.as_slice().trim_end().as_bstr())
@@ -134,13 +134,13 @@ fn edit<L: Ledger>(
 {
     match bench.apply(alloc, ops, steps) {
         Ok(accepted) => print_changed(rt, accepted.changed.as_slice()),
-        Err(ApplyStop::Refused(why)) => Err(refused(why)),
+        Err(ApplyStop::Refused(why)) => Err(error_of_refusal(why)),
         Err(ApplyStop::Memory) => Err(Memory.into()),
     }
 }
 
 /// Why a group is not carried out, as an error.
-fn refused(why: Refused) -> Error {
+fn error_of_refusal(why: Refused) -> Error {
     match why {
         Refused::Key { rule, op } => anyhow!("operation {op} of the group breaks {rule:?}"),
         Refused::Valid { rule, point } => {

@@ -8,7 +8,7 @@ ghost use Rattle.case_derivation.specs.Matching.{matches};
 ghost use Rattle.case_derivation.specs.Steps.{titled};
 
 use crate::cased;
-use crate::matching::{Left, all_left, is_changed, left_behind};
+use crate::matching::{Unmatched, all_unmatched, is_mismatch, unmatched_after};
 use ucd_model::{FactView, Point};
 
 /// Which mappings change a list. The Unicode Standard, section 3.13, D139 to D143.
@@ -42,8 +42,8 @@ pub fn changes_when<W: FactView>(view: &W, nfd: &[Point]) -> Changes
     'unmapped: for (at, c) in nfd.iter().enumerate() {
         if !view.is_unmapped(*c) {
             let begun = has_cased(view, &nfd[..at]);
-            let left = left_behind(all_left(&nfd[at..], begun), *c, &view.facts(*c));
-            return changes_behind(view, left, &nfd[at + 1..]);
+            let left = unmatched_after(all_unmatched(&nfd[at..], begun), *c, &view.facts(*c));
+            return changes_after(view, left, &nfd[at + 1..]);
         }
     }
     Changes {
@@ -68,7 +68,7 @@ fn has_cased<W: FactView>(view: &W, s: &[Point]) -> bool
 }
 
 /// What is changed once the members in `s` are mapped too.
-fn changes_behind<W: FactView>(view: &W, left: Left<'_>, s: &[Point]) -> Changes
+fn changes_after<W: FactView>(view: &W, left: Unmatched<'_>, s: &[Point]) -> Changes
     ensures lowered { result.lowered
         ≡ not (matches left.entry.lowered (lower (W.facts_of view.now) s.now)) }
     ensures uppered { result.uppered
@@ -81,16 +81,16 @@ fn changes_behind<W: FactView>(view: &W, left: Left<'_>, s: &[Point]) -> Changes
 {
     let mut left = left;
     'members: for c in s {
-        left = left_behind(left, *c, &view.facts(*c));
+        left = unmatched_after(left, *c, &view.facts(*c));
     }
-    let lowered = is_changed(left.lowered);
-    let uppered = is_changed(left.uppered);
-    let titled = is_changed(left.titled);
+    let lowered = is_mismatch(left.lowered);
+    let uppered = is_mismatch(left.uppered);
+    let titled = is_mismatch(left.titled);
     Changes {
         lowered,
         uppered,
         titled,
-        folded: is_changed(left.folded),
+        folded: is_mismatch(left.folded),
         mapped: lowered || uppered || titled,
     }
 }

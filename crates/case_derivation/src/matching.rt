@@ -15,7 +15,7 @@ use ucd_model::{FactsRef, Point};
 /// What of a list is left for the images of the later members, by each mapping; `None` if the images so far are not
 /// the beginning of the list.
 #[derive(Clone, Copy)]
-pub(crate) struct Left<'a> {
+pub(crate) struct Unmatched<'a> {
     /// By the mapping to lower case.
     pub(crate) lowered: Option<&'a [Point]>,
     /// By the mapping to upper case.
@@ -29,14 +29,14 @@ pub(crate) struct Left<'a> {
 }
 
 /// All of a list is left.
-pub(crate) fn all_left(s: &[Point], begun: bool) -> Left<'_>
+pub(crate) fn all_unmatched(s: &[Point], begun: bool) -> Unmatched<'_>
     ensures lowered { (mapped : List ℕ) → matches result.lowered mapped ≡ bytes_eq mapped s.now }
     ensures uppered { (mapped : List ℕ) → matches result.uppered mapped ≡ bytes_eq mapped s.now }
     ensures titled { (mapped : List ℕ) → matches result.titled mapped ≡ bytes_eq mapped s.now }
     ensures folded { (mapped : List ℕ) → matches result.folded mapped ≡ bytes_eq mapped s.now }
     ensures begun { result.begun ≡ begun }
 {
-    Left {
+    Unmatched {
         lowered: Some(s),
         uppered: Some(s),
         titled: Some(s),
@@ -46,7 +46,11 @@ pub(crate) fn all_left(s: &[Point], begun: bool) -> Left<'_>
 }
 
 /// What is left behind the images of one more member, with these facts.
-pub(crate) fn left_behind<'a>(left: Left<'a>, c: Point, facts: &FactsRef<'_>) -> Left<'a>
+pub(crate) fn unmatched_after<'a>(
+    left: Unmatched<'a>,
+    c: Point,
+    facts: &FactsRef<'_>,
+) -> Unmatched<'a>
     ensures lowered { (mapped : List ℕ) → matches result.lowered mapped
         ≡ matches left.entry.lowered (image_points c (shown_facts facts.now).lower ++ mapped) }
     ensures uppered { (mapped : List ℕ) → matches result.uppered mapped
@@ -59,17 +63,17 @@ pub(crate) fn left_behind<'a>(left: Left<'a>, c: Point, facts: &FactsRef<'_>) ->
         ≡ matches left.entry.folded (image_points c (shown_facts facts.now).fold ++ mapped) }
     ensures begun { result.begun ≡ (left.entry.begun || cased (shown_facts facts.now)) }
 {
-    Left {
-        lowered: rest_behind(left.lowered, c, facts.lower),
-        uppered: rest_behind(left.uppered, c, facts.upper),
-        titled: rest_behind(left.titled, c, title_image(left.begun, facts)),
-        folded: rest_behind(left.folded, c, facts.fold),
+    Unmatched {
+        lowered: without_image(left.lowered, c, facts.lower),
+        uppered: without_image(left.uppered, c, facts.upper),
+        titled: without_image(left.titled, c, title_image(left.begun, facts)),
+        folded: without_image(left.folded, c, facts.fold),
         begun: left.begun || is_cased(facts),
     }
 }
 
 /// The rest behind the points of an image of a code point; `None` if they are not its beginning.
-fn rest_behind<'a>(
+fn without_image<'a>(
     rest: Option<&'a [Point]>,
     c: Point,
     image: Option<&[Point]>,
@@ -85,7 +89,7 @@ fn rest_behind<'a>(
 }
 
 /// Whether the images of all members are not the list.
-pub(crate) fn is_changed(left: Option<&[Point]>) -> bool
+pub(crate) fn is_mismatch(left: Option<&[Point]>) -> bool
     ensures { result ≡ not (matches left.entry []) }
 {
     !matches!(left, Some([]))

@@ -40,7 +40,7 @@ impl Case {
     {
         match self {
             Case::Fold(status) if same_status(row.status, status) => {
-                Some((row.code, row.mapping.again()))
+                Some((row.code, row.mapping.duplicate()))
             }
             _ => None,
         }
@@ -56,9 +56,9 @@ impl Case {
         }
         match self {
             Case::Fold(_) => None,
-            Case::Lower => Some((row.code, row.lower.again())),
-            Case::Title => Some((row.code, row.title.again())),
-            Case::Upper => Some((row.code, row.upper.again())),
+            Case::Lower => Some((row.code, row.lower.duplicate())),
+            Case::Title => Some((row.code, row.title.duplicate())),
+            Case::Upper => Some((row.code, row.upper.duplicate())),
         }
     }
 }

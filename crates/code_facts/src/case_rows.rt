@@ -70,9 +70,9 @@ fn put_foldings(
     ensures { OnOk result ((c : ℕ)
         → cases_at images.new c ≡ with_foldings c (row_in row.now) (cases_at images.old c)) }
 {
-    put_first(alloc, images, row, Case::Fold(FoldStatus::C))?;
-    put_first(alloc, images, row, Case::Fold(FoldStatus::F))?;
-    put_first(alloc, images, row, Case::Fold(FoldStatus::S))
+    put_row_image(alloc, images, row, Case::Fold(FoldStatus::C))?;
+    put_row_image(alloc, images, row, Case::Fold(FoldStatus::F))?;
+    put_row_image(alloc, images, row, Case::Fold(FoldStatus::S))
 }
 
 /// Gives the code point of a row the casings that it has not yet.
@@ -84,14 +84,14 @@ fn put_casings(
     ensures { OnOk result ((c : ℕ)
         → cases_at images.new c ≡ with_casings c (row_in row.now) (cases_at images.old c)) }
 {
-    put_first(alloc, images, row, Case::Lower)?;
-    put_first(alloc, images, row, Case::Title)?;
-    put_first(alloc, images, row, Case::Upper)
+    put_row_image(alloc, images, row, Case::Lower)?;
+    put_row_image(alloc, images, row, Case::Title)?;
+    put_row_image(alloc, images, row, Case::Upper)
 }
 
 /// Gives the code point of a row its image of a case, unless it has one.
 #[tactic(auto, using(crate::proofs::CaseLemmas::nothing_more))]
-fn put_first(
+fn put_row_image(
     alloc: Global,
     images: &mut BTreeMap<Point, Box<Cases>>,
     row: &RowRef<'_>,
@@ -146,9 +146,9 @@ fn put_image(
         → cases_at images.new c
         ≡ with_image case (cases_at images.old c) (if code == c then image else None)) }
 {
-    let mut cases = taken(alloc, images, code)?;
+    let mut cases = take_cases(alloc, images, code)?;
     put(&mut cases, case, image);
-    set(images, code, cases)?;
+    set_cases(images, code, cases)?;
     Ok(())
 }
 
@@ -177,7 +177,7 @@ fn put_points(place: &mut GivenPoints, points: GivenPoints)
 }
 
 /// Takes the images of a code point out.
-fn taken(
+fn take_cases(
     alloc: Global,
     images: &mut BTreeMap<Point, Box<Cases>>,
     code: Point,
@@ -193,7 +193,7 @@ fn taken(
 }
 
 /// Gives a code point these images in place of its own.
-fn set(
+fn set_cases(
     images: &mut BTreeMap<Point, Box<Cases>>,
     code: Point,
     cases: Box<Cases>,

@@ -181,7 +181,7 @@ fn add_mapping(
         ≡ (if within c row.now.span then mapping_in c (Some (given_row row.now))
         else lists_next mappings.old c)) }
 {
-    let mapping = row.values.decomposition.mapping.again();
+    let mapping = row.values.decomposition.mapping.duplicate();
     put_mapping(alloc, mappings, row.span, mapping)?;
     if let Kind::Plain = row.values.decomposition.kind
         && let Some(part) = syllables(row.span)

@@ -11,7 +11,7 @@ ghost use Rattle.code_facts.specs.RowTables.{ShowsRows};
 
 use crate::row_lists::RowLists;
 use crate::row_tables::row_tables;
-use fact_tables::{FactTables, RowTables, joined};
+use fact_tables::{FactTables, RowTables, disjoint_spans};
 use range_table::Table;
 use release_rows::{Release, rows_meet};
 use std::alloc::Global;
@@ -68,7 +68,7 @@ impl<T: Table<u64>> FromRelease for FactTables<T> {
             return Ok(());
         }
         rows_meet();
-        let spans = joined(alloc, touched.as_slice())?;
+        let spans = disjoint_spans(alloc, touched.as_slice())?;
         let made = touching_tables(alloc, after, spans.as_slice())?;
         self.refill(alloc, &made, spans.as_slice())
     }

@@ -13,7 +13,7 @@ ghost use Rattle.code_facts.specs.MarkRows.{IsMarked, KeepsMarkRows, is_flagged}
 use crate::mark::{MARKS, Mark};
 use crate::mark_rows::{Flagged, MarkRows};
 use crate::row_lists::RowLists;
-use fact_tables::{painted, summed};
+use fact_tables::{sum_of_tables, table_of_spans};
 use range_table::{RunTable, Table};
 use std::alloc::Global;
 use ucd_facts::{Flag, Memory, Span};
@@ -50,8 +50,8 @@ fn with_mark(
     if spans.is_empty() {
         return Ok(table);
     }
-    let one = painted(alloc, spans, mark.word())?;
-    summed(alloc, &table, &one)
+    let one = table_of_spans(alloc, spans, mark.word())?;
+    sum_of_tables(alloc, &table, &one)
 }
 
 /// The spans on which rows put a mark.

@@ -13,7 +13,7 @@ ghost use Rattle.fact_tables.specs.Word.{one_if};
 
 use crate::mark::is_mid_word_value;
 use crate::mark_rows::push_some;
-use layered_table::{Layer, pieces};
+use layered_table::{Layer, disjoint_layers};
 use release_rows::RowText;
 use source_rows::RowRef;
 use std::alloc::Global;
@@ -85,7 +85,7 @@ fn layered_mid_words(alloc: Global, rows: &[RowText<'_>]) -> Result<Vec<Span>, M
         → list_any (within c) spans.items ≡ mid_word_at rows.now c) }
 {
     let layers = all_layers(alloc, rows)?;
-    let layers = pieces(alloc, 0, &layers)?;
+    let layers = disjoint_layers(alloc, 0, &layers)?;
     spans_of_ones(alloc, &layers)
 }
 

@@ -15,7 +15,7 @@ use crate::case_rows::case_images;
 use crate::data_tables::DataTables;
 use crate::marks::marks;
 use crate::row_lists::RowLists;
-use fact_tables::{DataLists, RowTables, summed};
+use fact_tables::{DataLists, RowTables, sum_of_tables};
 use range_table::RunTable;
 use std::alloc::Global;
 use ucd_facts::Memory;
@@ -53,7 +53,7 @@ fn over(
         → ShowsRows made (sources_of rows.now) c) }
 {
     let cases = Box::new(alloc, case_images(alloc, rows)?)?;
-    let words = summed(alloc, data_words, marked)?;
+    let words = sum_of_tables(alloc, data_words, marked)?;
     Ok(RowTables {
         words,
         lists,

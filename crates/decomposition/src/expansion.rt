@@ -60,7 +60,7 @@ fn put_expansion<W: FactView>(
     if levels == 0 {
         return Err(FormStop::Bad(Bad::V2));
     }
-    let mapping = counted(view, compat, c);
+    let mapping = mapping_if_counted(view, compat, c);
     if mapping.is_empty() {
         points.push(c)?;
         return Ok(());
@@ -73,7 +73,7 @@ fn put_expansion<W: FactView>(
 
 /// The mapping of a code point if it counts: a canonical one always, a compatibility one if `compat` holds; else
 /// no code points. UAX #15, section 1.3.
-pub fn counted<W: FactView>(view: &W, compat: bool, c: Point) -> &[Point]
+pub fn mapping_if_counted<W: FactView>(view: &W, compat: bool, c: Point) -> &[Point]
     ensures { result.now ≡ counted (W.facts_of view.now) compat c }
 {
     if view.kind(c).counts(compat) {

@@ -5,7 +5,7 @@ ghost use Rattle.std.specs.List.{list_any};
 ghost use Rattle.ucd_facts.specs.Expansion.{full};
 ghost use Rattle.decomposition.specs.Levels.{any_member};
 
-use crate::expansion::{LEVELS, counted};
+use crate::expansion::{LEVELS, mapping_if_counted};
 use std::alloc::Global;
 use ucd_facts::{FactView, Memory, Point};
 
@@ -45,13 +45,13 @@ fn members_of<W: FactView>(
 {
     let mut members = Vec::new(alloc);
     'points: for c in points {
-        members.extend_from_slice(counted(view, compat, *c))?;
+        members.extend_from_slice(mapping_if_counted(view, compat, *c))?;
     }
-    Ok(once(members))
+    Ok(sorted_without_repeats(members))
 }
 
 /// Each of the items once. It takes no memory.
-fn once<V: Ord + Drop>(mut points: Vec<V>) -> Vec<V>
+fn sorted_without_repeats<V: Ord + Drop>(mut points: Vec<V>) -> Vec<V>
     requires { (a b : V) → V.eq a b ≡ true → a ≡ b }
     ensures { (p : V → Bool) → list_any p result.items ≡ list_any p points.items }
 {

@@ -25,7 +25,7 @@ const SECOND: u64 = 0x11_0001;
 /// Lists a code point under each of the questions that are not its own ones.
 ///
 /// - `Memory`: memory ran out. Nothing that was listed is lost; the code point may be listed under some of them.
-pub fn list(keys: &mut KeySet, c: Point, asked: &Queries) -> Result<(), Memory>
+pub fn put_asker_keys(keys: &mut KeySet, c: Point, asked: &Queries) -> Result<(), Memory>
     ensures grows { (q : Question) (k : ℕ) → may_ask (has keys.old) q k ≡ true
         → may_ask (has keys.new) q k ≡ true }
     ensures listed { OnOk result ((q : Question) → is_asked asked.now q ≡ true
@@ -45,7 +45,7 @@ fn put_asker(keys: &mut KeySet, query: &Query, c: Point) -> Result<(), Memory>
         → may_ask (has keys.new) q k ≡ true }
     ensures listed { OnOk result (may_ask (has keys.new) query.now c ≡ true) }
 {
-    if is_own(query, c) {
+    if is_own_question(query, c) {
         return Ok(());
     }
     keys.insert(asker_key(query, c))
@@ -61,7 +61,7 @@ pub fn push_keys(keys: &mut Vec<u64>, c: Point, asked: &Queries) -> Result<(), M
         → may_ask (is_in keys.new.items) q c ≡ true) }
 {
     'queries: for query in asked.as_slice() {
-        if !is_own(query, c) {
+        if !is_own_question(query, c) {
             keys.push(asker_key(query, c))?;
         }
     }
@@ -76,7 +76,7 @@ fn asker_key(query: &Query, c: Point) -> u64
 }
 
 /// Whether a question is one of those that a code point asks if it is plain.
-fn is_own(query: &Query, c: Point) -> bool
+fn is_own_question(query: &Query, c: Point) -> bool
     ensures { result ≡ is_own query.now c }
 {
     match *query {
@@ -92,7 +92,7 @@ pub fn next_listed(keys: &KeySet, query: &Query, from: u32) -> Option<Point>
         (λ c. (from ≤ c) × NoneFrom (may_ask (has keys.now) query.now) from c) }
 {
     let listed = next_point(keys, query_key(query), from);
-    let own = own_point(query, from);
+    let own = own_asker(query, from);
     least(listed, own)
 }
 
@@ -110,7 +110,7 @@ fn query_key(query: &Query) -> u64
 }
 
 /// The plain code point whose own question this is, if it is at or above `from`.
-fn own_point(query: &Query, from: u32) -> Option<Point>
+fn own_asker(query: &Query, from: u32) -> Option<Point>
     ensures { MatchOption result (NoneFrom (is_own query.now) from 1114112)
         (λ c. (from ≤ c) × NoneFrom (is_own query.now) from c) }
 {

@@ -9,7 +9,7 @@ ghost use Rattle.dependency_map.specs.Maps.{asked_at};
 
 use crate::asker_index::next_listed;
 use crate::asker_iter::Askers;
-use crate::collecting::points_of;
+use crate::collecting::points_of_numbers;
 use crate::dependencies::DependencyMap;
 use number_sets::KeySet;
 use point_store::Store;
@@ -36,7 +36,7 @@ impl<S: Store<Option<Queries>>> DependencyMap<S> {
             self.push_askers(query, &mut numbers)?;
         }
         let sorted = KeySet::of(alloc, numbers);
-        let points = points_of(alloc, &sorted)?;
+        let points = points_of_numbers(alloc, &sorted)?;
         Ok(points)
     }
 

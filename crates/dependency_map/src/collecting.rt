@@ -12,7 +12,7 @@ use ucd_facts::{Memory, Points};
 /// The code points whose numbers these are, ascending.
 ///
 /// - `Memory`: memory ran out.
-pub fn points_of(alloc: Global, numbers: &KeySet) -> Result<Points, Memory>
+pub fn points_of_numbers(alloc: Global, numbers: &KeySet) -> Result<Points, Memory>
     ensures { IfOk result (λ points. points ≡ points_from (has numbers.now) 0) }
 {
     let mut points = Points::new(alloc);

@@ -6,7 +6,7 @@ ghost use Rattle.dependency_map.specs.Askers.{own_queries};
 ghost use Rattle.dependency_map.specs.Index.{kept_at};
 ghost use Rattle.dependency_map.specs.Maps.{asked_at};
 
-use crate::asker_index::list;
+use crate::asker_index::put_asker_keys;
 use crate::dependencies::DependencyMap;
 use crate::relisting::FEW;
 use number_sets::KeySet;
@@ -44,7 +44,7 @@ impl<S: Store<Option<Queries>>> DependencyMap<S> {
         }
         let copy = Queries::of(self.alloc, asked.as_slice())?;
         self.prepared = self.prepared.saturating_add(asked.len());
-        list(&mut self.askers, c, asked)?;
+        put_asker_keys(&mut self.askers, c, asked)?;
         put_list(self.alloc, &mut self.lists, c, copy)
     }
 

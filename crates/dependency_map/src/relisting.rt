@@ -16,7 +16,7 @@ use ucd_facts::{Memory, Point, Queries};
 pub const FEW: usize = 4096;
 
 /// How many prepared questions are few beside these keys.
-pub fn few_beside(keys: &[u64]) -> usize {
+pub fn few_prepared_for(keys: &[u64]) -> usize {
     keys.len().saturating_add(FEW)
 }
 
@@ -75,7 +75,7 @@ fn push_run<T: Stretches<u64>>(
     ensures next { IfOk result (λ end. ListsFrom (is_in keys.new.items)
         (values T.next lists.now) c end) }
 {
-    match plain_end(lists, c) {
+    match end_of_unkept(lists, c) {
         Some(end) => Ok(end),
         None => {
             push_asked(keys, lists, c)?;
@@ -86,7 +86,7 @@ fn push_run<T: Stretches<u64>>(
 
 /// One past the last code point of a run from this one on for which nothing is kept; `None` if something is kept for
 /// this one.
-fn plain_end<T: Stretches<u64>>(lists: &SlotStore<T, Option<Queries>>, c: Point) -> Option<u32>
+fn end_of_unkept<T: Stretches<u64>>(lists: &SlotStore<T, Option<Queries>>, c: Point) -> Option<u32>
     ensures from { IfSome result (λ end. c < end) }
     ensures now { IfSome result (λ end. (k : ℕ) → c ≤ k → k < end
         → values T.now lists.now k ≡ None) }
@@ -115,7 +115,7 @@ fn push_asked<T: Stretches<u64>>(
         → may_ask (is_in keys.new.items) q c ≡ true) }
 {
     push_list(keys, c, lists.get(c))?;
-    if is_still(lists, c) {
+    if is_unchanged_next(lists, c) {
         return Ok(());
     }
     push_list(keys, c, lists.get_next(c))
@@ -135,7 +135,7 @@ fn push_list(keys: &mut Vec<u64>, c: Point, list: &Option<Queries>) -> Result<()
 }
 
 /// Whether what is kept for a code point next lies where it lies now.
-fn is_still<T: Stretches<u64>>(lists: &SlotStore<T, Option<Queries>>, c: Point) -> bool
+fn is_unchanged_next<T: Stretches<u64>>(lists: &SlotStore<T, Option<Queries>>, c: Point) -> bool
     ensures { IsTrue result → values T.next lists.now c ≡ values T.now lists.now c }
 {
     lists.place(c) == lists.place_next(c)

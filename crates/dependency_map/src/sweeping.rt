@@ -5,7 +5,7 @@ ghost use Rattle.point_store.specs.SlotStore.{values};
 ghost use Rattle.range_table.specs.Values.{SameValues};
 
 use crate::dependencies::DependencyMap;
-use crate::relisting::{few_beside, keys_of};
+use crate::relisting::{few_prepared_for, keys_of};
 use number_sets::KeySet;
 use point_store::SlotStore;
 use range_table::Stretches;
@@ -24,12 +24,12 @@ impl<T: Stretches<u64>> DependencyMap<SlotStore<T, Option<Queries>>> {
             lists.sweep();
         }
         if self.prepared > self.few {
-            self.list_anew();
+            self.gather_keys_anew();
         }
     }
 
     /// Lists the code points under the questions that they ask now or next, and under no others, if there is memory.
-    fn list_anew(&mut self)
+    fn gather_keys_anew(&mut self)
         ensures now { SameValues (asked_at (values T.now) self.new)
             (asked_at (values T.now) self.old) }
         ensures next { SameValues (asked_at (values T.next) self.new)
@@ -37,7 +37,7 @@ impl<T: Stretches<u64>> DependencyMap<SlotStore<T, Option<Queries>>> {
     {
         if let Ok(keys) = keys_of(self.alloc, &self.lists) {
             self.prepared = 0;
-            self.few = few_beside(&keys);
+            self.few = few_prepared_for(&keys);
             self.askers = KeySet::of(self.alloc, keys);
         }
     }

@@ -8,7 +8,7 @@ use crate::sample::Sample;
 use crate::sample_text::{Forms, Mapped, Marks, Normal, has_text, put_mapped, put_marks};
 use derived_writer::text_over;
 use std::alloc::Global;
-use ucd_model::{Category, DerivedFile, Kind, Memory, Records, Span, Tag, equal_pieces};
+use ucd_model::{Category, DerivedFile, Kind, Memory, Records, Span, Tag, equal_record_spans};
 
 /// The normalisation properties of `A` and `B`, of DIAERESIS and SOFT HYPHEN, of five combining marks, of two that are
 /// excluded from composition, and of the spaces from EN QUAD to HAIR SPACE; a sample of no other point.
@@ -132,7 +132,7 @@ fn pieces_are_written(alloc: Global) -> bool {
 }
 
 fn are_over_pieces<B: Records>(alloc: Global, bench: &B) -> bool {
-    match equal_pieces(alloc, bench) {
+    match equal_record_spans(alloc, bench) {
         Ok(pieces) => are_over(alloc, bench, pieces.as_slice()),
         Err(Memory) => false,
     }

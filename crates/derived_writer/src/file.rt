@@ -9,7 +9,7 @@ ghost use Rattle.derived_writer.specs.Shown.{AreShown};
 use crate::listing::file_listings;
 use crate::section::put_section;
 use std::alloc::Global;
-use ucd_model::{DerivedFile, Memory, Record, Records, Span, Text, equal_pieces};
+use ucd_model::{DerivedFile, Memory, Record, Records, Span, Text, equal_record_spans};
 
 /// The text of a derived file: its sections in order, each with `# NAME`, a line for each maximal span of equal value
 /// other than the default, ascending, `# total N` with the number of code points listed, and an empty line.
@@ -19,11 +19,11 @@ use ucd_model::{DerivedFile, Memory, Record, Records, Span, Text, equal_pieces};
 pub fn file_text<B: Records>(alloc: Global, bench: &B, file: DerivedFile) -> Result<Text, Memory>
     ensures { IfOk result (λ text. text ≡ derived_text point_count file (B.record_of bench.now)) }
 {
-    let pieces = equal_pieces(alloc, bench)?;
+    let pieces = equal_record_spans(alloc, bench)?;
     text_over(alloc, bench, pieces.as_slice(), file)
 }
 
-/// The text of a derived file, over the pieces of equal records that [`equal_pieces`] gives: if several files are
+/// The text of a derived file, over the pieces of equal records that [`equal_record_spans`] gives: if several files are
 /// written, the records are compared with one another once. UAX #44, section 5.3.
 ///
 /// - `Memory`: memory ran out.

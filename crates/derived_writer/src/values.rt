@@ -14,7 +14,7 @@ pub fn set_binary(name: &[u8], holds: bool, label: &mut LabelText) -> Result<(),
     ensures { OnOk result (label.new ≡ binary_label name.now holds) }
 {
     if holds {
-        label.list(name)
+        label.set_value(name)
     } else {
         label.clear();
         Ok(())
@@ -31,7 +31,7 @@ pub fn set_category(category: Category, label: &mut LabelText) -> Result<(), Mem
         label.clear();
         Ok(())
     } else {
-        label.list(category.code())
+        label.set_value(category.code())
     }
 }
 
@@ -46,7 +46,7 @@ pub fn set_class(alloc: Global, class: u8, label: &mut LabelText) -> Result<(), 
         return Ok(());
     }
     let digits = class.to_string(alloc)?;
-    label.list(digits.as_bytes())
+    label.set_value(digits.as_bytes())
 }
 
 /// A decomposition type is listed as `canonical` or by the name of its tag, unless there is no mapping.
@@ -61,8 +61,8 @@ pub fn set_kind(kind: Kind, label: &mut LabelText) -> Result<(), Memory>
             label.clear();
             Ok(())
         }
-        Kind::Canonical => label.list(b"canonical"),
-        Kind::Compat(tag) => label.list(tag.name()),
+        Kind::Canonical => label.set_value(b"canonical"),
+        Kind::Compat(tag) => label.set_value(tag.name()),
     }
 }
 
@@ -77,8 +77,8 @@ pub fn set_quick(name: &[u8], quick: Quick, label: &mut LabelText) -> Result<(),
             label.clear();
             Ok(())
         }
-        Quick::No => label.list_parts(name, b" ; N"),
-        Quick::Maybe => label.list_parts(name, b" ; M"),
+        Quick::No => label.set_value_parts(name, b" ; N"),
+        Quick::Maybe => label.set_value_parts(name, b" ; M"),
     }
 }
 
@@ -95,6 +95,6 @@ pub fn set_casefold(name: &[u8], image: &Image, label: &mut LabelText) -> Result
             label.clear();
             Ok(())
         }
-        Image::To(points) => label.list_points(name, points.as_slice()),
+        Image::To(points) => label.set_name_and_points(name, points.as_slice()),
     }
 }

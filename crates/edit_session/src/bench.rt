@@ -201,7 +201,7 @@ impl Bench {
     }
 
     /// A law: between two calls nothing is prepared, so what is next is what is now.
-    pub fn is_still(&self)
+    pub fn has_nothing_prepared(&self)
         ensures { HasNothingPrepared self.now }
     {
         self.release();

@@ -93,7 +93,7 @@ fn derive_behind<L: Ledger>(
     let mut run = derive_run(alloc, tables, Point::at(1), steps)?;
     'runs: while run.span.last() + 1 < Point::COUNT {
         let next = derive_run(alloc, tables, Point::at(run.span.last() + 1), steps)?;
-        run = put_behind(table, run, next)?;
+        run = put_or_join(table, run, next)?;
     }
     table.prepare_span(run.span, run.value)?;
     Ok(())
@@ -130,7 +130,7 @@ fn derive_run<L: Ledger>(
 /// answer is the second.
 ///
 /// - `Memory`: memory ran out. What is next stays.
-fn put_behind(
+fn put_or_join(
     table: &mut RecordTable,
     run: RecordSpan,
     next: RecordSpan,
@@ -142,7 +142,7 @@ fn put_behind(
 {
     if has_one_record(&run, &next) {
         return Ok(RecordSpan {
-            span: joined(run.span, next.span),
+            span: span_of_both(run.span, next.span),
             value: run.value,
         });
     }
@@ -158,7 +158,7 @@ fn has_one_record(run: &RecordSpan, next: &RecordSpan) -> bool
 }
 
 /// Two spans that follow one another as one.
-fn joined(span: Span, next: Span) -> Span
+fn span_of_both(span: Span, next: Span) -> Span
     requires { next.lo ≡ span.hi + 1 }
     ensures { result ≡ record { lo = span.lo; hi = next.hi } }
 {
@@ -190,13 +190,13 @@ fn end_of_alike(tables: &FactTables<PagedTable>, c: Point) -> u32
         ≡ derived (tables_facts values_now tables.now) c }
 {
     match tables.last_uniform(c) {
-        Some(last) => (last.number() + 1).min(end_of_shown(c)),
+        Some(last) => (last.number() + 1).min(end_of_visible_format_run(c)),
         None => c.number() + 1,
     }
 }
 
 /// One past the last code point up to which all from `c` on are format characters that are shown, or none of them is.
-fn end_of_shown(c: Point) -> u32
+fn end_of_visible_format_run(c: Point) -> u32
     ensures from { c < result }
     ensures inside { result ≤ 1114112 }
     ensures same { (d : ℕ) → c ≤ d → d < result → is_visible_format d ≡ is_visible_format c }

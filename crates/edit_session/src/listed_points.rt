@@ -51,13 +51,13 @@ fn list_point(
     if tables.is_plain(c) {
         return Ok(());
     }
-    put_asked(alloc, tables, c, map)
+    prepare_asked(alloc, tables, c, map)
 }
 
 /// Prepares what a code point asks.
 ///
 /// - `Memory`: memory ran out. What it asks may be prepared.
-fn put_asked(
+fn prepare_asked(
     alloc: Global,
     tables: &FactTables<PagedTable>,
     c: Point,

@@ -8,7 +8,7 @@ ghost use Rattle.paged_table.specs.Paged.{values_now};
 ghost use Rattle.edit_session.specs.Questions.{HasStepsBelow};
 
 use code_facts::FactTables;
-use mention_index::{Mentioning, Mentions};
+use mention_index::{Mentions, MentionsBuilder};
 use paged_table::PagedTable;
 use std::alloc::Global;
 use ucd_model::{Memory, Point, point_count};
@@ -22,7 +22,7 @@ pub fn mention_all(alloc: Global, tables: &FactTables<PagedTable>) -> Result<Men
     ensures walked { IfOk result (λ mentions. (x : ℕ) → is_walked mentions x ≡ false) }
 {
     let count = point_count();
-    let mut listing = Mentioning::new(alloc);
+    let mut listing = MentionsBuilder::new(alloc);
     let mut number = 0;
     'runs: while number < count {
         let end = mention_run(tables, Point::at(number), &mut listing)?;
@@ -38,7 +38,7 @@ pub fn mention_all(alloc: Global, tables: &FactTables<PagedTable>) -> Result<Men
 fn mention_run(
     tables: &FactTables<PagedTable>,
     c: Point,
-    listing: &mut Mentioning,
+    listing: &mut MentionsBuilder,
 ) -> Result<u32, Memory>
     requires { HasStepsBelow (puts listing.old) c (tables_facts values_now tables.now) }
     ensures from { IfOk result (λ end. c < end) }

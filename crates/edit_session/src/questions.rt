@@ -97,10 +97,10 @@ impl Questions {
     {
         let Questions { map, mentions } = self;
         match mentions {
-            Some(mentions) => walk(alloc, tables, queries, map, mentions),
+            Some(mentions) => with_reached_listed(alloc, tables, queries, map, mentions),
             None => {
                 let mentions = mention_all(alloc, tables)?;
-                walk(alloc, tables, queries, map, mentions)
+                with_reached_listed(alloc, tables, queries, map, mentions)
             }
         }
     }
@@ -133,7 +133,7 @@ impl Questions {
 /// Goes on from the code points that questions are about, and lists what each of those asks that one newly comes to.
 ///
 /// - `Memory`: memory ran out.
-fn walk(
+fn with_reached_listed(
     alloc: Global,
     tables: &FactTables<PagedTable>,
     queries: &Queries,
@@ -150,7 +150,7 @@ fn walk(
     ensures still { IfOk result (λ questions. AreStill questions) }
     ensures walked { IfOk result (λ questions. HasWalked questions.mentions queries.now) }
 {
-    go_on(alloc, tables, queries, &mut map, &mut mentions)?;
+    list_reached(alloc, tables, queries, &mut map, &mut mentions)?;
     Ok(Questions {
         map,
         mentions: Some(mentions),
@@ -161,7 +161,7 @@ fn walk(
 /// and the mentions are changed in their places.
 ///
 /// - `Memory`: memory ran out.
-fn go_on(
+fn list_reached(
     alloc: Global,
     tables: &FactTables<PagedTable>,
     queries: &Queries,

@@ -12,7 +12,7 @@ ghost use Rattle.run_inputs.specs.Held.{source_held};
 ghost use Rattle.run_inputs.specs.Paths.{sources_in};
 ghost use Rattle.run_inputs.specs.Refusals.{folder_verdict};
 
-use run_endings::{Output, Plan, Status, Stop, end_run, gather, make_room};
+use run_endings::{Output, Plan, Status, Stop, end_run, make_room, read_inputs};
 use run_inputs::{open_folder, source_paths};
 use shelf_io::{Shelf, Sink};
 use std::alloc::Global;
@@ -115,7 +115,7 @@ fn read_folder<S: Shelf>(
     ensures only_read { OnlyRead (shelf_seen S.Shelf shelf.old shelf.new) }
 {
     let paths = source_paths(alloc, folder)?;
-    let held = gather(alloc, shelf, paths.as_slice())?;
+    let held = read_inputs(alloc, shelf, paths.as_slice())?;
     Ok(held)
 }
 

@@ -10,8 +10,8 @@ use Rattle.ucd_facts.specs.Composites.{composes, ends_with}
 use Rattle.range_table.specs.declared.table.Table.{Ghosts}
 use Rattle.fact_tables.specs.FactTables.{words_at, rests_at, facts_at}
 use Rattle.fact_tables.specs.declared.fact_tables.FactTables.{FactTables}
-use Rattle.fact_tables.specs.declared.version.Version.{Version}
-use Rattle.fact_tables.specs.declared.version.Version.TheVariants.{Now, Next}
+use Rattle.fact_tables.specs.declared.now_or_next.NowOrNext.{NowOrNext}
+use Rattle.fact_tables.specs.declared.now_or_next.NowOrNext.TheVariants.{Now, Next}
 use Rattle.fact_tables.proofs.IndexLemmas.{pair_candidate, second_candidate}
 use Rattle.fact_tables.specs.Changes.{StaysOutside}
 use Rattle.fact_tables.specs.Copying.{with_spans, IsListed}
@@ -131,11 +131,11 @@ pub second_inside : (words : ℕ → ℕ) (rests : ℕ → RestOf) (y q : ℕ) �
 second_inside words rests y q is = candidate_inside words rests q (second_candidate (all_kept words rests) y q is)
 
 -- what tables keep, now and next
-pub listed_at : {T : Type 0} {d : Ghosts T ℕ} (version : Version) (t : FactTables T d) → Lists t.index (facts_at version t)
+pub listed_at : {T : Type 0} {d : Ghosts T ℕ} (version : NowOrNext) (t : FactTables T d) → Lists t.index (facts_at version t)
 listed_at Now t = t.now_listed
 listed_at Next t = t.next_listed
 
-pub sound_at : {T : Type 0} {d : Ghosts T ℕ} (version : Version) (t : FactTables T d) → Sound t.index (words_at version t) (rests_at version t)
+pub sound_at : {T : Type 0} {d : Ghosts T ℕ} (version : NowOrNext) (t : FactTables T d) → Sound t.index (words_at version t) (rests_at version t)
 sound_at Now t = record { listed = t.now_listed; packs = t.now_packs }
 sound_at Next t = record { listed = t.next_listed; packs = t.next_packs }
 

@@ -15,18 +15,18 @@ use Rattle.point_store.specs.SlotStore.{held_count, values}
 use Rattle.fact_tables.specs.KeptFacts.{all_kept}
 use Rattle.fact_tables.specs.Rest.{RestOf}
 use Rattle.fact_tables.specs.declared.fact_tables.FactTables.{FactTables}
-use Rattle.fact_tables.specs.declared.version.Version.{Version}
-use Rattle.fact_tables.specs.declared.version.Version.TheVariants.{Now, Next}
+use Rattle.fact_tables.specs.declared.now_or_next.NowOrNext.{NowOrNext}
+use Rattle.fact_tables.specs.declared.now_or_next.NowOrNext.TheVariants.{Now, Next}
 
-abbrev pub words_at : {T : Type 0} {d : Ghosts T ℕ} → Version → FactTables T d → ℕ → ℕ
+abbrev pub words_at : {T : Type 0} {d : Ghosts T ℕ} → NowOrNext → FactTables T d → ℕ → ℕ
 words_at {T} {d} Now t = d.now t.words
 words_at {T} {d} Next t = d.next t.words
 
-abbrev pub rests_at : {T : Type 0} {d : Ghosts T ℕ} → Version → FactTables T d → ℕ → RestOf
+abbrev pub rests_at : {T : Type 0} {d : Ghosts T ℕ} → NowOrNext → FactTables T d → ℕ → RestOf
 rests_at {T} {d} Now t = values d.now t.rests
 rests_at {T} {d} Next t = values d.next t.rests
 
-abbrev pub facts_at : {T : Type 0} {d : Ghosts T ℕ} → Version → FactTables T d → ℕ → Facts
+abbrev pub facts_at : {T : Type 0} {d : Ghosts T ℕ} → NowOrNext → FactTables T d → ℕ → Facts
 facts_at version t = all_kept (words_at version t) (rests_at version t)
 
 abbrev pub tables_facts : {T : Type 0} {d : Ghosts T ℕ} → (T → ℕ → ℕ) → FactTables T d → ℕ → Facts

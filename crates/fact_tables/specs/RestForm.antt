@@ -3,8 +3,8 @@
 -- rest_of form   what is kept
 use Rattle.std.specs.Box.{box_value}
 use Rattle.fact_tables.specs.Rest.{RestOf, no_rest, bare_rest, rest_of_all}
-use Rattle.fact_tables.specs.declared.rest.RestForm.{RestForm}
-use Rattle.fact_tables.specs.declared.rest.RestForm.TheVariants.{Empty, One, Two, All}
+use Rattle.fact_tables.specs.declared.packed_mappings.RestForm.{RestForm}
+use Rattle.fact_tables.specs.declared.packed_mappings.RestForm.TheVariants.{Empty, One, Two, All}
 
 abbrev pub rest_of : RestForm → RestOf
 rest_of Empty = no_rest

@@ -10,9 +10,9 @@ ghost use Rattle.fact_tables.specs.Changes.{Gathers, IsTold, is_among, is_reache
 ghost use Rattle.fact_tables.specs.FactTables.{tables_facts, tables_next};
 
 use crate::fact_tables::FactTables;
+use crate::now_or_next::NowOrNext;
 use crate::reached::Reached;
 use crate::reaching::put_unless;
-use crate::version::Version;
 use range_table::{Stretches, Table};
 use std::alloc::Global;
 use ucd_facts::{Memory, Point, Queries, Query};
@@ -33,7 +33,7 @@ impl<T: Stretches<u64>> FactTables<T> {
     {
         let reached = self.reached(alloc, self.touched.as_slice())?;
         let queries = self.all_changed(alloc, reached)?;
-        Ok(in_order(queries))
+        Ok(sorted_queries(queries))
     }
 }
 
@@ -121,8 +121,8 @@ impl<T: Table<u64>> FactTables<T> {
             (IsTold (tables_facts T.now self.now) (tables_next T.now self.now) queries.new.items
             (Query.Pair s y)) }
     {
-        let now = self.composite(Version::Now, s, y);
-        let next = self.composite(Version::Next, s, y);
+        let now = self.composite(NowOrNext::Now, s, y);
+        let next = self.composite(NowOrNext::Next, s, y);
         let same = is_same_point(now, next);
         put_unless(queries, Query::Pair(s, y), same)
     }
@@ -136,8 +136,8 @@ impl<T: Table<u64>> FactTables<T> {
             (IsTold (tables_facts T.now self.now) (tables_next T.now self.now) queries.new.items
             (Query.Second y)) }
     {
-        let now = self.is_second(Version::Now, y);
-        let next = self.is_second(Version::Next, y);
+        let now = self.is_second(NowOrNext::Now, y);
+        let next = self.is_second(NowOrNext::Next, y);
         let same = is_same_answer(now, next);
         put_unless(queries, Query::Second(y), same)
     }
@@ -157,7 +157,7 @@ fn seconds_of(alloc: Global, pairs: &[(Point, Point)]) -> Result<Vec<Point>, Mem
         let (_, y) = *pair;
         seconds.push(y)?;
     }
-    put_in_order(&mut seconds);
+    sort_and_dedup(&mut seconds);
     Ok(seconds)
 }
 
@@ -180,16 +180,16 @@ fn is_same_point(a: Option<Point>, b: Option<Point>) -> bool
 }
 
 /// The questions in ascending order, each once. It takes no memory.
-fn in_order(mut queries: Vec<Query>) -> Queries
+fn sorted_queries(mut queries: Vec<Query>) -> Queries
     ensures asked { (q : QueryValue) → is_asked result q ≡ is_asked queries.items q }
     ensures once { IsStrictlySortedBy (⟦<Query as Ord>⟧.cmp) result }
 {
-    put_in_order(&mut queries);
+    sort_and_dedup(&mut queries);
     Queries::from_vec(queries)
 }
 
 /// Sorts items, and keeps each once. It takes no memory.
-fn put_in_order<V: Ord + Drop>(items: &mut Vec<V>)
+fn sort_and_dedup<V: Ord + Drop>(items: &mut Vec<V>)
     requires { (a b : V) → V.eq a b ≡ true → a ≡ b }
     ensures same { (p : V → Bool) → list_any p items.new.items ≡ list_any p items.old.items }
     ensures once { IsStrictlySortedBy V.cmp items.new.items }

@@ -6,7 +6,7 @@ ghost use Rattle.fact_tables.specs.FactTables.{facts_at};
 ghost use Rattle.fact_tables.specs.Index.{candidate_of, is_that, ends_that, is_candidate, is_candidate_word, may_compose, picked, two_of};
 
 use crate::fact_tables::FactTables;
-use crate::version::Version;
+use crate::now_or_next::NowOrNext;
 use crate::word::{class_of, is_excluded, kind_of};
 use range_table::Table;
 use ucd_facts::{Kind, Point};
@@ -14,7 +14,7 @@ use ucd_facts::{Kind, Point};
 impl<T: Table<u64>> FactTables<T> {
     /// The least primary composite of a pair: the first that is listed under the pair and composes by the facts. A
     /// first member whose class is not 0 composes with nothing. The Unicode Standard, section 3.11, D114.
-    pub(crate) fn composite(&self, version: Version, s: Point, y: Point) -> Option<Point>
+    pub(crate) fn composite(&self, version: NowOrNext, s: Point, y: Point) -> Option<Point>
         ensures { result ≡ pair_of (facts_at version self.now) s y }
     {
         if self.class_in(version, s) != 0 {
@@ -31,7 +31,7 @@ impl<T: Table<u64>> FactTables<T> {
     }
 
     /// Whether a code point is the second member of a primary composite: of one that is listed under it.
-    pub(crate) fn is_second(&self, version: Version, y: Point) -> bool
+    pub(crate) fn is_second(&self, version: NowOrNext, y: Point) -> bool
         ensures { result ≡ second_of (facts_at version self.now) y }
     {
         let mut from = 0;
@@ -46,7 +46,7 @@ impl<T: Table<u64>> FactTables<T> {
 
     /// The members of the mapping of a primary composite; `None` for every other code point.
     /// The Unicode Standard, section 3.11, D114.
-    pub(crate) fn members(&self, version: Version, q: Point) -> Option<(Point, Point)>
+    pub(crate) fn members(&self, version: NowOrNext, q: Point) -> Option<(Point, Point)>
         ensures pair { (s y : ℕ) → is_that s y result ≡ composes (facts_at version self.now) s y q }
         ensures second { (y : ℕ) → ends_that y result ≡ ends_with (facts_at version self.now) y q }
     {
@@ -58,7 +58,7 @@ impl<T: Table<u64>> FactTables<T> {
     /// class of the first too.
     fn picked(
         &self,
-        version: Version,
+        version: NowOrNext,
         q: Point,
         two: Option<(Point, Point)>,
     ) -> Option<(Point, Point)>
@@ -77,7 +77,7 @@ impl<T: Table<u64>> FactTables<T> {
     }
 
     /// Whether a code point may be a primary composite whose mapping begins with `s`.
-    fn may_compose(&self, version: Version, q: Point, s: Point) -> bool
+    fn may_compose(&self, version: NowOrNext, q: Point, s: Point) -> bool
         ensures { result ≡ may_compose (facts_at version self.now) q s }
     {
         let candidate = self.is_candidate(version, q);
@@ -87,7 +87,7 @@ impl<T: Table<u64>> FactTables<T> {
 
     /// The two members of the mapping of a code point that may be a primary composite by its kind, its class and its
     /// exclusion; `None` for every other code point.
-    pub(crate) fn candidate(&self, version: Version, q: Point) -> Option<(Point, Point)>
+    pub(crate) fn candidate(&self, version: NowOrNext, q: Point) -> Option<(Point, Point)>
         ensures { result ≡ candidate_of (facts_at version self.now q) }
     {
         if self.is_candidate(version, q) {
@@ -98,7 +98,7 @@ impl<T: Table<u64>> FactTables<T> {
     }
 
     /// Whether a code point may be a primary composite by its kind, its class and its exclusion.
-    fn is_candidate(&self, version: Version, q: Point) -> bool
+    fn is_candidate(&self, version: NowOrNext, q: Point) -> bool
         ensures { result ≡ is_candidate (facts_at version self.now q) }
     {
         let _number = q.number();

@@ -12,11 +12,11 @@ ghost use Rattle.fact_tables.specs.Rest.{no_rest};
 ghost use Rattle.fact_tables.specs.RowTables.{AreBare, word_in, rest_in};
 
 use crate::composing::is_candidate_word;
+use crate::packed_mappings::PackedMappings;
 use crate::pair_index::PairIndex;
 use crate::pair_keys::PairKeys;
 use crate::point_lists::PointLists;
 use crate::points::{lesser, point};
-use crate::rest::Rest;
 use crate::row_tables::RowTables;
 use point_store::Store;
 use range_table::{RunTable, Table};
@@ -26,7 +26,7 @@ use ucd_facts::{Memory, Point, Span};
 /// Makes what is next in spans the same as in the tables of rows, and lists their code points.
 ///
 /// - `Memory`: memory ran out. Nothing is then known of what is next; what was listed stays.
-pub fn put_spans<T: Table<u64>, S: Store<Rest>>(
+pub fn put_spans<T: Table<u64>, S: Store<PackedMappings>>(
     alloc: Global,
     words: &mut T,
     rests: &mut S,
@@ -54,7 +54,7 @@ pub fn put_spans<T: Table<u64>, S: Store<Rest>>(
 /// compose two members.
 ///
 /// - `Memory`: memory ran out. Nothing is then known of what is next.
-pub fn copy_spans<T: Table<u64>, S: Store<Rest>>(
+pub fn copy_spans<T: Table<u64>, S: Store<PackedMappings>>(
     alloc: Global,
     words: &mut T,
     rests: &mut S,
@@ -114,7 +114,7 @@ pub fn put_words<T: Table<u64>>(
 /// Makes what is kept next beside the words of a span the same as in the tables.
 ///
 /// - `Memory`: memory ran out. Nothing is then known of what is next.
-pub fn put_rests<S: Store<Rest>>(
+pub fn put_rests<S: Store<PackedMappings>>(
     alloc: Global,
     into: &mut S,
     from: &RowTables,
@@ -124,12 +124,12 @@ pub fn put_rests<S: Store<Rest>>(
     ensures ok { OnOk result (SameValues (S.next into.new)
         (with_values (S.next into.old) span.lo span.hi (rest_in from.now))) }
 {
-    let none = into.hold(Rest::none())?;
+    let none = into.hold(PackedMappings::none())?;
     put_rests_with(alloc, into, from, span, none)
 }
 
 /// Makes what is kept next beside the words of a span the same as in the tables, given the place of the rest of code points that have none.
-fn put_rests_with<S: Store<Rest>>(
+fn put_rests_with<S: Store<PackedMappings>>(
     alloc: Global,
     into: &mut S,
     from: &RowTables,
@@ -165,7 +165,7 @@ fn put_rests_with<S: Store<Rest>>(
 }
 
 /// Gives the points of a span what is kept of the first of them, which has this decomposition mapping.
-fn put_rest<S: Store<Rest>>(
+fn put_rest<S: Store<PackedMappings>>(
     alloc: Global,
     into: &mut S,
     from: &RowTables,

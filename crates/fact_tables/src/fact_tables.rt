@@ -5,8 +5,8 @@ ghost use Rattle.fact_tables.specs.Changes.{StaysOutside};
 ghost use Rattle.fact_tables.specs.Index.{Lists};
 ghost use Rattle.fact_tables.specs.KeptFacts.{all_kept, Packs};
 
+use crate::packed_mappings::PackedMappings;
 use crate::pair_index::PairIndex;
-use crate::rest::Rest;
 use point_store::SlotStore;
 use range_table::Table;
 use ucd_facts::Spans;
@@ -20,7 +20,7 @@ pub struct FactTables<T: Table<u64>> {
     // the packed words
     pub(crate) words: T,
     // what is kept beside them
-    pub(crate) rests: SlotStore<T, Rest>,
+    pub(crate) rests: SlotStore<T, PackedMappings>,
     // the code points whose word now or next lets them compose the two members of their mapping; others may be in it too
     pub(crate) index: PairIndex,
     // the code points outside of which next is now

@@ -9,7 +9,7 @@ ghost use Rattle.fact_tables.specs.KeptFacts.{full_image};
 use ucd_facts::Point;
 
 /// The first of the points, or the code point itself if there are none.
-pub fn first_or(c: Point, points: &[Point]) -> Point
+pub fn first_point_or(c: Point, points: &[Point]) -> Point
     ensures { result ≡ only_or c points.now }
 {
     match points {
@@ -19,7 +19,7 @@ pub fn first_or(c: Point, points: &[Point]) -> Point
 }
 
 /// The points, or the others if there are none.
-pub fn first_list<'a>(points: &'a [Point], others: &'a [Point]) -> &'a [Point]
+pub fn first_nonempty<'a>(points: &'a [Point], others: &'a [Point]) -> &'a [Point]
     ensures { (c : ℕ) → only_or c result.now ≡ only_or (only_or c others.now) points.now }
 {
     if points.is_empty() { others } else { points }
@@ -83,7 +83,7 @@ pub fn simple_folding(c: Point, first: Option<&[Point]>, second: Option<&[Point]
         (unwrap_or (option_copied second.entry) [])) }
 {
     match (first, second) {
-        (Some(points), _) | (None, Some(points)) => first_or(c, points),
+        (Some(points), _) | (None, Some(points)) => first_point_or(c, points),
         (None, None) => c,
     }
 }

@@ -11,7 +11,7 @@ use ucd_facts::{Memory, Span, Spans};
 /// Spans of the same code points, which ascend. Between any two of them is a code point that lies in none.
 ///
 /// - `Memory`: memory ran out.
-pub fn joined(alloc: Global, spans: &[Span]) -> Result<Spans, Memory>
+pub fn disjoint_spans(alloc: Global, spans: &[Span]) -> Result<Spans, Memory>
     ensures { IfOk result (λ all. (c : ℕ)
         → list_any (within c) all ≡ list_any (within c) spans.now) }
 {
@@ -23,7 +23,7 @@ pub fn joined(alloc: Global, spans: &[Span]) -> Result<Spans, Memory>
         let next = join_or_put(&mut all, before, *span)?;
         before = Some(next);
     }
-    put_last(&mut all, before)?;
+    put_last_span(&mut all, before)?;
     Ok(all)
 }
 
@@ -46,7 +46,7 @@ fn join_or_put(all: &mut Spans, before: Option<Span>, span: Span) -> Result<Span
 
 /// Puts the span that is not put yet behind the others.
 #[tactic(auto, using(crate::proofs::JoinedLemmas::or_nothing, crate::proofs::JoinedLemmas::within_put))]
-fn put_last(all: &mut Spans, before: Option<Span>) -> Result<(), Memory>
+fn put_last_span(all: &mut Spans, before: Option<Span>) -> Result<(), Memory>
     ensures { OnOk result ((c : ℕ)
         → list_any (within c) all.new ≡ (list_any (within c) all.old || is_in before c)) }
 {

@@ -5,7 +5,7 @@ ghost use Rattle.fact_tables.specs.FactTables.{tables_next};
 ghost use Rattle.fact_tables.specs.NextView.{facts_next};
 
 use crate::fact_tables::FactTables;
-use crate::version::Version;
+use crate::now_or_next::NowOrNext;
 use range_table::Table;
 use ucd_facts::{Category, FactView, FactsRef, Flags, Kind, Point};
 
@@ -28,50 +28,50 @@ impl<T: Table<u64>> FactView for NextView<'_, T> {
     ghost facts_of = { facts_next T.now };
 
     fn facts(&self, c: Point) -> FactsRef<'_> {
-        self.tables.shown(Version::Next, c)
+        self.tables.facts_in(NowOrNext::Next, c)
     }
 
     fn pair(&self, s: Point, y: Point) -> Option<Point> {
-        self.tables.composite(Version::Next, s, y)
+        self.tables.composite(NowOrNext::Next, s, y)
     }
 
     fn second(&self, y: Point) -> bool {
-        self.tables.is_second(Version::Next, y)
+        self.tables.is_second(NowOrNext::Next, y)
     }
 
     fn is_assigned(&self, c: Point) -> bool {
-        self.tables.is_assigned_in(Version::Next, c)
+        self.tables.is_assigned_in(NowOrNext::Next, c)
     }
 
     fn class(&self, c: Point) -> u8 {
-        self.tables.class_in(Version::Next, c)
+        self.tables.class_in(NowOrNext::Next, c)
     }
 
     fn kind(&self, c: Point) -> Kind {
-        self.tables.kind_in(Version::Next, c)
+        self.tables.kind_in(NowOrNext::Next, c)
     }
 
     fn mapping(&self, c: Point) -> &[Point] {
-        self.tables.mapping_in(Version::Next, c)
+        self.tables.mapping_in(NowOrNext::Next, c)
     }
 
     fn category(&self, c: Point) -> Category {
-        self.tables.category_in(Version::Next, c)
+        self.tables.category_in(NowOrNext::Next, c)
     }
 
     fn flags(&self, c: Point) -> Flags {
-        self.tables.flags_in(Version::Next, c)
+        self.tables.flags_in(NowOrNext::Next, c)
     }
 
     fn folding(&self, c: Point) -> Option<&[Point]> {
-        self.tables.folding_in(Version::Next, c)
+        self.tables.folding_in(NowOrNext::Next, c)
     }
 
     fn simple_folding(&self, c: Point) -> Point {
-        self.tables.simple_folding_in(Version::Next, c)
+        self.tables.simple_folding_in(NowOrNext::Next, c)
     }
 
     fn is_unmapped(&self, c: Point) -> bool {
-        self.tables.is_unmapped_in(Version::Next, c)
+        self.tables.is_unmapped_in(NowOrNext::Next, c)
     }
 }

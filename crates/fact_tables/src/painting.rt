@@ -15,7 +15,11 @@ use ucd_facts::{Memory, Point, Span};
 /// and overlap.
 ///
 /// - `Memory`: memory ran out.
-pub fn painted(alloc: Global, mut spans: Vec<Span>, value: u64) -> Result<RunTable<u64>, Memory>
+pub fn table_of_spans(
+    alloc: Global,
+    mut spans: Vec<Span>,
+    value: u64,
+) -> Result<RunTable<u64>, Memory>
     ensures { IfOk result (λ table. SameValues (values_now table)
         (λ c. if list_any (within c) spans.items then value else 0)) }
 {
@@ -33,7 +37,7 @@ pub fn painted(alloc: Global, mut spans: Vec<Span>, value: u64) -> Result<RunTab
 /// neither table changes.
 ///
 /// - `Memory`: memory ran out.
-pub fn summed<T: Table<u64>>(
+pub fn sum_of_tables<T: Table<u64>>(
     alloc: Global,
     a: &RunTable<u64>,
     b: &RunTable<u64>,

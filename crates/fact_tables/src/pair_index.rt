@@ -74,14 +74,14 @@ impl PairIndex {
     }
 
     /// Whether so many keys were put in that all are to be gathered anew.
-    pub fn is_due(&self) -> bool
+    pub fn is_gathering_due(&self) -> bool
         ensures { result ≡ (self.now.left == 0) }
     {
         self.left == 0
     }
 
     /// Lets a few more keys be put in before all are gathered anew.
-    pub fn put_off(&mut self)
+    pub fn put_off_gathering(&mut self)
         ensures { (a b r : ℕ) → is_listed self.new a b r ≡ is_listed self.old a b r }
     {
         self.left = FEW;

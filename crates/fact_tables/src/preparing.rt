@@ -14,10 +14,10 @@ ghost use Rattle.fact_tables.specs.Word.{packed};
 use crate::copying::{copy_spans, put_spans};
 use crate::data_lists::DataLists;
 use crate::fact_tables::FactTables;
+use crate::packed_mappings::PackedMappings;
 use crate::pair_index::PairIndex;
 use crate::pair_keys::PairKeys;
 use crate::points::point;
-use crate::rest::Rest;
 use crate::row_tables::RowTables;
 use crate::word::NO_ROW;
 use point_store::{SlotStore, Store};
@@ -38,7 +38,7 @@ impl<T: Table<u64>> FactTables<T> {
             → tables_next T.now tables c ≡ made_facts made.now c) }
     {
         let mut words = T::filled(alloc, NO_ROW)?;
-        let mut rests = SlotStore::filled(alloc, Rest::none())?;
+        let mut rests = SlotStore::filled(alloc, PackedMappings::none())?;
         let index = fill(alloc, &mut words, &mut rests, made)?;
         Ok(FactTables {
             words,
@@ -125,7 +125,7 @@ impl<T: Table<u64>> FactTables<T> {
 /// takes up is given back.
 ///
 /// - `Memory`: memory ran out.
-fn fill<T: Table<u64>, S: Store<Rest>>(
+fn fill<T: Table<u64>, S: Store<PackedMappings>>(
     alloc: Global,
     words: &mut T,
     rests: &mut S,
@@ -140,13 +140,17 @@ fn fill<T: Table<u64>, S: Store<Rest>>(
 {
     make_room(words, rests, from);
     let mut keys = PairKeys::new(alloc);
-    copy_spans(alloc, words, rests, &mut keys, from, &everywhere())?;
+    copy_spans(alloc, words, rests, &mut keys, from, &span_of_all_points())?;
     commit_and_shrink(words, rests);
     Ok(PairIndex::of(alloc, keys))
 }
 
 /// Makes room for what tables of rows give, as far as there is memory: tables that grow by and by leave holes in it.
-fn make_room<T: Table<u64>, S: Store<Rest>>(words: &mut T, rests: &mut S, from: &RowTables)
+fn make_room<T: Table<u64>, S: Store<PackedMappings>>(
+    words: &mut T,
+    rests: &mut S,
+    from: &RowTables,
+)
     ensures words_now { SameValues (T.now words.new) (T.now words.old) }
     ensures words_next { SameValues (T.next words.new) (T.next words.old) }
     ensures rests_now { SameValues (S.now rests.new) (S.now rests.old) }
@@ -186,7 +190,7 @@ fn uneven_blocks<F: Fn(Point) -> Point>(last_alike: F) -> u32
 }
 
 /// What is next becomes now, and stays next. Room that no value takes up is given back.
-fn commit_and_shrink<T: Table<u64>, S: Store<Rest>>(words: &mut T, rests: &mut S)
+fn commit_and_shrink<T: Table<u64>, S: Store<PackedMappings>>(words: &mut T, rests: &mut S)
     ensures words_now { SameValues (T.now words.new) (T.next words.old) }
     ensures words_next { SameValues (T.next words.new) (T.next words.old) }
     ensures rests_now { SameValues (S.now rests.new) (S.next rests.old) }
@@ -199,7 +203,7 @@ fn commit_and_shrink<T: Table<u64>, S: Store<Rest>>(words: &mut T, rests: &mut S
 }
 
 /// The span of all code points.
-fn everywhere() -> [Span; 1]
+fn span_of_all_points() -> [Span; 1]
     ensures { (c : ℕ) → c < 1114112 → list_any (within c) result ≡ true }
 {
     [Span {

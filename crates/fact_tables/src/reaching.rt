@@ -12,10 +12,10 @@ ghost use Rattle.fact_tables.specs.Index.{is_listed};
 ghost use Rattle.ucd_points.specs.Stretches.{HoldsTo};
 
 use crate::fact_tables::FactTables;
+use crate::now_or_next::NowOrNext;
 use crate::pair_index::{first_key, listed_point};
 use crate::points::{lesser, point};
 use crate::reached::Reached;
-use crate::version::Version;
 use range_table::{Stretches, Table};
 use std::alloc::Global;
 use ucd_facts::{Memory, Point, Query, Span, same_facts};
@@ -93,10 +93,10 @@ impl<T: Stretches<u64>> FactTables<T> {
     /// is found by a few look-ups, and need not be the last such code point.
     fn last_same_word(&self, c: Point) -> Option<Point>
         ensures { IfSome result (HoldsTo
-            (λ d. words_at Version.Now self.now d ≡ words_at Version.Next self.now d) c) }
+            (λ d. words_at NowOrNext.Now self.now d ≡ words_at NowOrNext.Next self.now d) c) }
     {
-        let word = self.word(Version::Now, c);
-        let word_next = self.word(Version::Next, c);
+        let word = self.word(NowOrNext::Now, c);
+        let word_next = self.word(NowOrNext::Next, c);
         if word != word_next {
             return None;
         }
@@ -109,10 +109,10 @@ impl<T: Stretches<u64>> FactTables<T> {
     /// of `c` is not. It is found by a few look-ups, and need not be the last such code point.
     fn last_same_rest(&self, c: Point) -> Option<Point>
         ensures { IfSome result (HoldsTo
-            (λ d. rests_at Version.Now self.now d ≡ rests_at Version.Next self.now d) c) }
+            (λ d. rests_at NowOrNext.Now self.now d ≡ rests_at NowOrNext.Next self.now d) c) }
     {
-        let rest = self.rest(Version::Now, c);
-        let rest_next = self.rest(Version::Next, c);
+        let rest = self.rest(NowOrNext::Now, c);
+        let rest_next = self.rest(NowOrNext::Next, c);
         if !rest.is_same(rest_next) {
             return None;
         }
@@ -134,13 +134,13 @@ impl<T: Table<u64>> FactTables<T> {
             (IsSeen self.now.index (tables_facts T.now self.now)
             (tables_next T.now self.now) reached.new c) }
     {
-        self.put_row(&mut reached.queries, c)?;
-        self.put_own(&mut reached.pairs, c)?;
-        self.put_first(&mut reached.pairs, c)
+        self.put_row_query(&mut reached.queries, c)?;
+        self.put_own_pairs(&mut reached.pairs, c)?;
+        self.put_pairs_begun_by(&mut reached.pairs, c)
     }
 
     /// Adds the question on the facts of a code point, if they differ.
-    fn put_row(&self, queries: &mut Vec<Query>, c: Point) -> Result<(), Memory>
+    fn put_row_query(&self, queries: &mut Vec<Query>, c: Point) -> Result<(), Memory>
         ensures gathers { OnOk result
             (Gathers (tables_facts T.now self.now)
             (tables_next T.now self.now) queries.old.items queries.new.items) }
@@ -156,27 +156,27 @@ impl<T: Table<u64>> FactTables<T> {
     fn has_same_facts(&self, c: Point) -> bool
         ensures { Decides result (tables_facts T.now self.now c ≡ tables_next T.now self.now c) }
     {
-        let now = self.shown(Version::Now, c);
-        let next = self.shown(Version::Next, c);
+        let now = self.facts_in(NowOrNext::Now, c);
+        let next = self.facts_in(NowOrNext::Next, c);
         same_facts(&now, &next)
     }
 
     /// Adds the pairs that a code point composes, now and next.
-    fn put_own(&self, pairs: &mut Vec<(Point, Point)>, q: Point) -> Result<(), Memory>
+    fn put_own_pairs(&self, pairs: &mut Vec<(Point, Point)>, q: Point) -> Result<(), Memory>
         ensures grows { OnOk result (Grows pairs.old.items pairs.new.items) }
         ensures own { OnOk result
             (ReachesOwn (tables_facts T.now self.now)
             (tables_next T.now self.now) pairs.new.items q) }
     {
-        self.put_members(pairs, Version::Now, q)?;
-        self.put_members(pairs, Version::Next, q)
+        self.put_pair_composed(pairs, NowOrNext::Now, q)?;
+        self.put_pair_composed(pairs, NowOrNext::Next, q)
     }
 
     /// Adds the members of the mapping of a code point, if it is a primary composite.
-    fn put_members(
+    fn put_pair_composed(
         &self,
         pairs: &mut Vec<(Point, Point)>,
-        version: Version,
+        version: NowOrNext,
         q: Point,
     ) -> Result<(), Memory>
         ensures grows { OnOk result (Grows pairs.old.items pairs.new.items) }
@@ -190,7 +190,7 @@ impl<T: Table<u64>> FactTables<T> {
     }
 
     /// Adds the pairs that a code point begins, if it has class 0 either now or next, but not both times.
-    fn put_first(&self, pairs: &mut Vec<(Point, Point)>, s: Point) -> Result<(), Memory>
+    fn put_pairs_begun_by(&self, pairs: &mut Vec<(Point, Point)>, s: Point) -> Result<(), Memory>
         ensures grows { OnOk result (Grows pairs.old.items pairs.new.items) }
         ensures first { OnOk result
             (first_differs (tables_facts T.now self.now) (tables_next T.now self.now) s ≡ true
@@ -198,16 +198,20 @@ impl<T: Table<u64>> FactTables<T> {
             → ReachesOwn (tables_facts T.now self.now)
             (tables_next T.now self.now) pairs.new.items q) }
     {
-        let now = self.class_in(Version::Now, s) == 0;
-        let next = self.class_in(Version::Next, s) == 0;
+        let now = self.class_in(NowOrNext::Now, s) == 0;
+        let next = self.class_in(NowOrNext::Next, s) == 0;
         if now == next {
             return Ok(());
         }
-        self.put_listed(pairs, s)
+        self.put_pairs_listed_under(pairs, s)
     }
 
     /// Adds the pairs that are composed by a code point which is listed under a first member.
-    fn put_listed(&self, pairs: &mut Vec<(Point, Point)>, s: Point) -> Result<(), Memory>
+    fn put_pairs_listed_under(
+        &self,
+        pairs: &mut Vec<(Point, Point)>,
+        s: Point,
+    ) -> Result<(), Memory>
         ensures grows { OnOk result (Grows pairs.old.items pairs.new.items) }
         ensures listed { OnOk result ((y q : ℕ) → is_listed self.now.index s y q ≡ true
             → ReachesOwn (tables_facts T.now self.now)
@@ -215,21 +219,21 @@ impl<T: Table<u64>> FactTables<T> {
     {
         let mut from = first_key(s);
         'listed: while let Some(key) = self.index.next_of_first(s, from) {
-            self.put_key(pairs, key)?;
+            self.put_pairs_of_key(pairs, key)?;
             from = key + 1;
         }
         Ok(())
     }
 
     /// Adds the pairs that the code point of a key composes, now and next.
-    fn put_key(&self, pairs: &mut Vec<(Point, Point)>, key: u64) -> Result<(), Memory>
+    fn put_pairs_of_key(&self, pairs: &mut Vec<(Point, Point)>, key: u64) -> Result<(), Memory>
         ensures grows { OnOk result (Grows pairs.old.items pairs.new.items) }
         ensures own { OnOk result
             (ReachesOwn (tables_facts T.now self.now)
             (tables_next T.now self.now) pairs.new.items (key % 2097152)) }
     {
         match listed_point(key) {
-            Some(q) => self.put_own(pairs, q),
+            Some(q) => self.put_own_pairs(pairs, q),
             None => Ok(()),
         }
     }

@@ -8,45 +8,45 @@ ghost use Rattle.fact_tables.specs.FactTables.{words_at, rests_at, facts_at};
 
 use crate::fact_tables::FactTables;
 use crate::images::{folding, simple_folding};
-use crate::rest::Rest;
-use crate::shown::shown;
-use crate::version::Version;
+use crate::now_or_next::NowOrNext;
+use crate::packed_mappings::PackedMappings;
 use crate::word::{category_of, class_of, flags_of, is_assigned, kind_of};
+use crate::word_facts::facts_of_word;
 use point_store::Store;
 use range_table::Table;
 use ucd_facts::{Category, FactsRef, Flags, Kind, Point};
 
 impl<T: Table<u64>> FactTables<T> {
     /// The packed word of a code point.
-    pub(crate) fn word(&self, version: Version, c: Point) -> u64
+    pub(crate) fn word(&self, version: NowOrNext, c: Point) -> u64
         ensures { result ≡ words_at version self.now c }
     {
         match version {
-            Version::Now => self.words.get(c),
-            Version::Next => self.words.get_next(c),
+            NowOrNext::Now => self.words.get(c),
+            NowOrNext::Next => self.words.get_next(c),
         }
     }
 
     /// The mappings of a code point, which are kept beside its packed word.
-    pub(crate) fn rest(&self, version: Version, c: Point) -> &Rest
+    pub(crate) fn rest(&self, version: NowOrNext, c: Point) -> &PackedMappings
         ensures { result.now ≡ rests_at version self.now c }
     {
         match version {
-            Version::Now => self.rests.get(c),
-            Version::Next => self.rests.get_next(c),
+            NowOrNext::Now => self.rests.get(c),
+            NowOrNext::Next => self.rests.get_next(c),
         }
     }
 
     /// The facts of a code point.
-    pub(crate) fn shown(&self, version: Version, c: Point) -> FactsRef<'_>
+    pub(crate) fn facts_in(&self, version: NowOrNext, c: Point) -> FactsRef<'_>
         ensures { shown_facts result ≡ facts_at version self.now c }
     {
         let _number = c.number();
-        shown(c, self.word(version, c), self.rest(version, c))
+        facts_of_word(c, self.word(version, c), self.rest(version, c))
     }
 
     /// Whether a row of UnicodeData.txt covers a code point.
-    pub(crate) fn is_assigned_in(&self, version: Version, c: Point) -> bool
+    pub(crate) fn is_assigned_in(&self, version: NowOrNext, c: Point) -> bool
         ensures { result ≡ (facts_at version self.now c).assigned }
     {
         let _number = c.number();
@@ -54,7 +54,7 @@ impl<T: Table<u64>> FactTables<T> {
     }
 
     /// The canonical combining class of a code point.
-    pub(crate) fn class_in(&self, version: Version, c: Point) -> u8
+    pub(crate) fn class_in(&self, version: NowOrNext, c: Point) -> u8
         ensures { result ≡ (facts_at version self.now c).class }
     {
         let _number = c.number();
@@ -62,7 +62,7 @@ impl<T: Table<u64>> FactTables<T> {
     }
 
     /// The kind of the mapping of a code point.
-    pub(crate) fn kind_in(&self, version: Version, c: Point) -> Kind
+    pub(crate) fn kind_in(&self, version: NowOrNext, c: Point) -> Kind
         ensures { result ≡ (facts_at version self.now c).kind }
     {
         let _number = c.number();
@@ -70,7 +70,7 @@ impl<T: Table<u64>> FactTables<T> {
     }
 
     /// The mapping of a code point.
-    pub(crate) fn mapping_in(&self, version: Version, c: Point) -> &[Point]
+    pub(crate) fn mapping_in(&self, version: NowOrNext, c: Point) -> &[Point]
         ensures { result.now ≡ (facts_at version self.now c).mapping }
     {
         let _number = c.number();
@@ -78,7 +78,7 @@ impl<T: Table<u64>> FactTables<T> {
     }
 
     /// The category of a code point.
-    pub(crate) fn category_in(&self, version: Version, c: Point) -> Category
+    pub(crate) fn category_in(&self, version: NowOrNext, c: Point) -> Category
         ensures { result ≡ (facts_at version self.now c).category }
     {
         let _number = c.number();
@@ -86,7 +86,7 @@ impl<T: Table<u64>> FactTables<T> {
     }
 
     /// Which of the properties in `Flag` a code point has.
-    pub(crate) fn flags_in(&self, version: Version, c: Point) -> Flags
+    pub(crate) fn flags_in(&self, version: NowOrNext, c: Point) -> Flags
         ensures { has_flag result ≡ (facts_at version self.now c).flag }
     {
         let _number = c.number();
@@ -94,7 +94,7 @@ impl<T: Table<u64>> FactTables<T> {
     }
 
     /// The full folding of a code point; `None` for the point itself alone.
-    pub(crate) fn folding_in(&self, version: Version, c: Point) -> Option<&[Point]>
+    pub(crate) fn folding_in(&self, version: NowOrNext, c: Point) -> Option<&[Point]>
         ensures { image_shown result ≡ (facts_at version self.now c).fold }
     {
         let _number = c.number();
@@ -103,7 +103,7 @@ impl<T: Table<u64>> FactTables<T> {
     }
 
     /// The simple folding of a code point.
-    pub(crate) fn simple_folding_in(&self, version: Version, c: Point) -> Point
+    pub(crate) fn simple_folding_in(&self, version: NowOrNext, c: Point) -> Point
         ensures { result ≡ (facts_at version self.now c).simple_fold }
     {
         let _number = c.number();
@@ -113,13 +113,13 @@ impl<T: Table<u64>> FactTables<T> {
 
     /// Whether a code point is its own image by each full case mapping, and by the folding. One that has no more than a
     /// decomposition mapping, as most have, is so at once.
-    pub(crate) fn is_unmapped_in(&self, version: Version, c: Point) -> bool
+    pub(crate) fn is_unmapped_in(&self, version: NowOrNext, c: Point) -> bool
         ensures { result ≡ is_unmapped (facts_at version self.now c) }
     {
         let _number = c.number();
         match self.rest(version, c).bare_mapping() {
             Some(_) => true,
-            None => self.shown(version, c).is_unmapped(),
+            None => self.facts_in(version, c).is_unmapped(),
         }
     }
 }

@@ -10,8 +10,8 @@ ghost use Rattle.fact_tables.specs.RowTables.{AreBare, IsBare, first_alone, othe
 use crate::case_images::CaseImages;
 use crate::data_lists::DataLists;
 use crate::mappings::Mappings;
+use crate::packed_mappings::PackedMappings;
 use crate::points::{lesser, point};
-use crate::rest::Rest;
 use range_table::RunTable;
 use std::alloc::Global;
 use ucd_facts::{Memory, Point, Points};
@@ -38,7 +38,7 @@ impl RowTables {
         c: Point,
         bare: u32,
         mapping: &[Point],
-    ) -> Result<Option<Rest>, Memory>
+    ) -> Result<Option<PackedMappings>, Memory>
         requires bare { AreBare self.now c bare }
         requires mapping { mapping.now ≡ (rest_in self.now c).mapping }
         ensures { IfOk result (λ rest. MatchOption rest (rest_in self.now c ≡ no_rest)
@@ -54,7 +54,7 @@ impl RowTables {
             title: first_of(self.lists.titles.get(c)),
             cases: self.cases.at(alloc, c)?,
         };
-        Ok(Some(Rest::of(alloc, mappings)?))
+        Ok(Some(PackedMappings::of(alloc, mappings)?))
     }
 
     /// A code point up to which the same is kept beside the words from `c` on. Decomposition mappings are the same up
@@ -153,14 +153,14 @@ impl RowTables {
 /// What is kept of a code point that has no more than this decomposition mapping; `None` if it is empty.
 ///
 /// - `Memory`: memory ran out.
-fn bare_rest(alloc: Global, mapping: &[Point]) -> Result<Option<Rest>, Memory>
+fn bare_rest(alloc: Global, mapping: &[Point]) -> Result<Option<PackedMappings>, Memory>
     ensures { IfOk result (λ rest. MatchOption rest (bare_with mapping.now ≡ no_rest)
         (λ kept. kept ≡ bare_with mapping.now)) }
 {
     if mapping.is_empty() {
         return Ok(None);
     }
-    Ok(Some(Rest::bare(alloc, mapping)?))
+    Ok(Some(PackedMappings::bare(alloc, mapping)?))
 }
 
 /// The first of the points, if there is one.

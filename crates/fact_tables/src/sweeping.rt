@@ -5,9 +5,9 @@ ghost use Rattle.fact_tables.specs.FactTables.{tables_facts, tables_next};
 ghost use Rattle.fact_tables.specs.Index.{GathersAll, is_candidate, is_gathered, pair_key};
 
 use crate::fact_tables::FactTables;
+use crate::now_or_next::NowOrNext;
 use crate::pair_index::{PairIndex, listed_point};
 use crate::pair_keys::{PairKeys, pair_key};
-use crate::version::Version;
 use range_table::{Stretches, Table};
 use ucd_facts::{Memory, Point};
 
@@ -20,28 +20,28 @@ impl<T: Stretches<u64>> FactTables<T> {
         ensures next { tables_next T.now self.new ≡ tables_next T.now self.old }
     {
         self.rests.sweep();
-        self.list_anew();
+        self.gather_pairs_anew();
     }
 }
 
 impl<T: Table<u64>> FactTables<T> {
     /// If the index is due and what is next is now, lists just the code points that may compose the two members of
     /// their mapping, as far as there is memory. It takes steps in proportion to the pairs that are listed.
-    fn list_anew(&mut self)
+    fn gather_pairs_anew(&mut self)
         ensures now { tables_facts T.now self.new ≡ tables_facts T.now self.old }
         ensures next { tables_next T.now self.new ≡ tables_next T.now self.old }
     {
-        if !self.index.is_due() || !self.is_still() {
+        if !self.index.is_gathering_due() || !self.has_nothing_prepared() {
             return;
         }
         match self.candidates() {
             Some(keys) => self.index = PairIndex::of(self.index.allocator(), keys),
-            None => self.index.put_off(),
+            None => self.index.put_off_gathering(),
         }
     }
 
     /// Whether no code point is touched, so that what is next is now.
-    fn is_still(&self) -> bool
+    fn has_nothing_prepared(&self) -> bool
         ensures { IsTrue result → tables_next T.now self.now ≡ tables_facts T.now self.now }
     {
         self.touched.as_slice().is_empty()
@@ -74,8 +74,8 @@ impl<T: Table<u64>> FactTables<T> {
         let Some(q) = listed_point(key) else {
             return Ok(());
         };
-        match self.candidate(Version::Now, q) {
-            Some(two) => keep(keys, key, two, q),
+        match self.candidate(NowOrNext::Now, q) {
+            Some(two) => gather_if_keyed(keys, key, two, q),
             None => Ok(()),
         }
     }
@@ -84,7 +84,12 @@ impl<T: Table<u64>> FactTables<T> {
 /// Gathers a code point under the two members of its mapping, if this is its key.
 ///
 /// - `Memory`: memory ran out.
-fn keep(keys: &mut PairKeys, key: u64, two: (Point, Point), q: Point) -> Result<(), Memory>
+fn gather_if_keyed(
+    keys: &mut PairKeys,
+    key: u64,
+    two: (Point, Point),
+    q: Point,
+) -> Result<(), Memory>
     ensures grows { (s y r : ℕ) → is_gathered keys.old s y r ≡ true
         → is_gathered keys.new s y r ≡ true }
     ensures kept { OnOk result (key ≡ pair_key two.0 two.1 + q

@@ -5,7 +5,7 @@ ghost use Rattle.fact_tables.specs.FactTables.{tables_facts};
 ghost use Rattle.fact_tables.specs.NowView.{facts_now};
 
 use crate::fact_tables::FactTables;
-use crate::version::Version;
+use crate::now_or_next::NowOrNext;
 use range_table::Table;
 use ucd_facts::{Category, FactView, FactsRef, Flags, Kind, Point};
 
@@ -19,51 +19,51 @@ impl<T: Table<u64>> FactView for FactTables<T> {
     ghost facts_of = { tables_facts T.now };
 
     fn facts(&self, c: Point) -> FactsRef<'_> {
-        self.shown(Version::Now, c)
+        self.facts_in(NowOrNext::Now, c)
     }
 
     fn pair(&self, s: Point, y: Point) -> Option<Point> {
-        self.composite(Version::Now, s, y)
+        self.composite(NowOrNext::Now, s, y)
     }
 
     fn second(&self, y: Point) -> bool {
-        self.is_second(Version::Now, y)
+        self.is_second(NowOrNext::Now, y)
     }
 
     fn is_assigned(&self, c: Point) -> bool {
-        self.is_assigned_in(Version::Now, c)
+        self.is_assigned_in(NowOrNext::Now, c)
     }
 
     fn class(&self, c: Point) -> u8 {
-        self.class_in(Version::Now, c)
+        self.class_in(NowOrNext::Now, c)
     }
 
     fn kind(&self, c: Point) -> Kind {
-        self.kind_in(Version::Now, c)
+        self.kind_in(NowOrNext::Now, c)
     }
 
     fn mapping(&self, c: Point) -> &[Point] {
-        self.mapping_in(Version::Now, c)
+        self.mapping_in(NowOrNext::Now, c)
     }
 
     fn category(&self, c: Point) -> Category {
-        self.category_in(Version::Now, c)
+        self.category_in(NowOrNext::Now, c)
     }
 
     fn flags(&self, c: Point) -> Flags {
-        self.flags_in(Version::Now, c)
+        self.flags_in(NowOrNext::Now, c)
     }
 
     fn folding(&self, c: Point) -> Option<&[Point]> {
-        self.folding_in(Version::Now, c)
+        self.folding_in(NowOrNext::Now, c)
     }
 
     fn simple_folding(&self, c: Point) -> Point {
-        self.simple_folding_in(Version::Now, c)
+        self.simple_folding_in(NowOrNext::Now, c)
     }
 
     fn is_unmapped(&self, c: Point) -> bool {
-        self.is_unmapped_in(Version::Now, c)
+        self.is_unmapped_in(NowOrNext::Now, c)
     }
 }
 

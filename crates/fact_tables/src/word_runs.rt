@@ -48,10 +48,10 @@ impl WordRuns {
             (with_span (words_next self.old) span.lo span.hi word)) }
     {
         let given = WordSpan { span, word };
-        match joined(&self.last, &given) {
+        match joined_if_adjacent(&self.last, &given) {
             Some(both) => self.last = Some(both),
             None => {
-                put_last(&mut self.table, &self.last)?;
+                put_last_span(&mut self.table, &self.last)?;
                 self.last = Some(given);
             }
         }
@@ -65,14 +65,14 @@ impl WordRuns {
         ensures { IfOk result (λ table. SameValues (values_now table) (words_next self)) }
     {
         let WordRuns { mut table, last } = self;
-        put_last(&mut table, &last)?;
+        put_last_span(&mut table, &last)?;
         table.commit();
         Ok(table)
     }
 }
 
 /// Puts the last span, if there is one, into the table.
-fn put_last(table: &mut RunTable<u64>, last: &Option<WordSpan>) -> Result<(), Memory>
+fn put_last_span(table: &mut RunTable<u64>, last: &Option<WordSpan>) -> Result<(), Memory>
     ensures { OnOk result (SameValues (values_next table.new)
         (over_last (values_next table.old) last.now)) }
 {
@@ -84,7 +84,7 @@ fn put_last(table: &mut RunTable<u64>, last: &Option<WordSpan>) -> Result<(), Me
 
 /// One span in place of the last one and this one, if this one begins right behind it and has the same word.
 #[tactic(auto, using(crate::proofs::WordRunLemmas::given_as_one))]
-fn joined(last: &Option<WordSpan>, given: &WordSpan) -> Option<WordSpan>
+fn joined_if_adjacent(last: &Option<WordSpan>, given: &WordSpan) -> Option<WordSpan>
     ensures { IfSome result (λ both. (words : ℕ → ℕ) (c : ℕ)
         → word_over words both c ≡ word_over (over_last words last.now) given.now c) }
 {

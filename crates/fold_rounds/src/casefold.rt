@@ -12,7 +12,7 @@ ghost use Rattle.fold_rounds.specs.Steps.{FoldsAs};
 
 use crate::ignorable::is_default_ignorable;
 use crate::rounds::fixed;
-use crate::settled::is_own;
+use crate::settled::folds_to_itself;
 use normalisation::nfkc;
 use std::alloc::Global;
 use ucd_model::{Bad, FactView, FactsRef, Folding, FormStop, Image, Point, Points, same_points};
@@ -90,7 +90,7 @@ pub fn casefold_of<W: FactView>(
     requires form { nfkc (W.facts_of view.now) (c ∷ []) ≡ Ok form.now }
     ensures { FoldsAs folding (W.facts_of view.now) c result }
 {
-    if is_own(c, facts) && same_points(form, &[c]) {
+    if folds_to_itself(c, facts) && same_points(form, &[c]) {
         return Ok(Folded {
             image: kept_or_dropped(alloc, c, facts),
             alike: true,

@@ -125,14 +125,14 @@ fn fixed_by<W: FactView>(
     if settled && same_points(found.list.as_slice(), folded) {
         return Ok(Some(found));
     }
-    fixed_behind(alloc, view, folding, c, found)
+    fixed_after_round(alloc, view, folding, c, found)
 }
 
 /// The first list, after 0 to 7 rounds from a code point, that one more round leaves as it is; `None` if there is none.
 /// `first` is the list after the first round. The Unicode Standard, section 3.13, toNFKC_Casefold.
 ///
 /// - `Memory`: memory ran out.
-fn fixed_behind<W: FactView>(
+fn fixed_after_round<W: FactView>(
     alloc: Global,
     view: &W,
     folding: Folding,
@@ -205,7 +205,7 @@ fn short_fold<W: FactView>(
 {
     let mut points = folded(alloc, view, folding, s)?;
     drop_ignorable(view, &mut points);
-    Ok(short(points))
+    Ok(if_short(points))
 }
 
 /// The Normalisation Form KC of a list; `None` if there is none, or if it is too long.
@@ -213,14 +213,14 @@ fn short_nfkc<W: FactView>(alloc: Global, view: &W, s: &[Point]) -> Result<Optio
     ensures { IfOk result (λ form. form ≡ short_nfkc (W.facts_of view.now) s.now) }
 {
     match nfkc(alloc, view, s) {
-        Ok(form) => Ok(short(form)),
+        Ok(form) => Ok(if_short(form)),
         Err(FormStop::Bad(_)) => Ok(None),
         Err(FormStop::Memory) => Err(Memory),
     }
 }
 
 /// A list that is not too long.
-fn short(points: Points) -> Option<Points>
+fn if_short(points: Points) -> Option<Points>
     ensures { result ≡ short points }
 {
     if points.len() <= MOST_POINTS {

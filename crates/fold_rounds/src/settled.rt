@@ -41,7 +41,7 @@ pub(crate) fn has_composite<W: FactView>(view: &W, s: &[Point]) -> bool
 }
 
 /// Whether a code point with these facts is its own folding, by either folding.
-pub(crate) fn is_own(c: Point, facts: &FactsRef<'_>) -> bool
+pub(crate) fn folds_to_itself(c: Point, facts: &FactsRef<'_>) -> bool
     ensures { result ≡ is_own c (shown_facts facts.now) }
 {
     facts.fold.is_none() && facts.simple_fold == c

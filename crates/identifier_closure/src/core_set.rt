@@ -6,7 +6,7 @@ ghost use Rattle.ucd_facts.specs.Sets.{has_core, core_place};
 ghost use Rattle.ucd_facts.specs.Shown.{shown_facts};
 ghost use Rattle.ucd_facts.specs.declared.property.Core.{Core};
 
-use crate::predicates::{ToldByForms, holds};
+use crate::predicates::{ToldByForms, has_core_property};
 use ucd_model::{Core, CoreSet, FactsRef, Point};
 
 /// The core properties of a code point with these facts, whose forms have these consequences. UAX #44, section 5.3.
@@ -43,5 +43,5 @@ fn with_core(set: CoreSet, core: Core, c: Point, facts: &FactsRef<'_>, told: Tol
     requires { HasBelow set (core_place core) (core_given c (shown_facts facts.now) told) }
     ensures { HasBelow result (core_place core + 1) (core_given c (shown_facts facts.now) told) }
 {
-    set.with(core, holds(core, c, facts, told))
+    set.with(core, has_core_property(core, c, facts, told))
 }

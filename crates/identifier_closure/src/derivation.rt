@@ -51,11 +51,11 @@ fn record_or_rule<W: FactView>(alloc: Global, view: &W, c: Point) -> Result<Reco
     }
     if let Kind::Plain = facts.kind {
         let alone = [c];
-        let forms = FormsRef::alone(view, &alone);
-        return recorded(alloc, view, c, &facts, forms);
+        let forms = FormsRef::of_unmapped(view, &alone);
+        return record_with_forms(alloc, view, c, &facts, forms);
     }
     match forms_of(alloc, view, c) {
-        Ok(forms) => recorded(alloc, view, c, &facts, forms.shown()),
+        Ok(forms) => record_with_forms(alloc, view, c, &facts, forms.as_ref()),
         Err(stop) => Err(stop),
     }
 }
@@ -63,7 +63,7 @@ fn record_or_rule<W: FactView>(alloc: Global, view: &W, c: Point) -> Result<Reco
 /// The record of a code point that breaks none of the rules V1 to V3, with its facts and its forms; or the first rule
 /// that it breaks.
 #[tactic(auto, using(crate::proofs::RecordLemmas::hidden_stop, crate::proofs::RecordLemmas::folding_stop))]
-fn recorded<W: FactView>(
+fn record_with_forms<W: FactView>(
     alloc: Global,
     view: &W,
     c: Point,

@@ -30,7 +30,7 @@ pub fn xid_start<W: FactView>(view: &W, c: Point, nfkc: &[Point]) -> bool
     requires { form_kc (W.facts_of view.now) (c ∷ []) ≡ Ok nfkc.now }
     ensures { result ≡ xid_start (W.facts_of view.now) c }
 {
-    id_start(view, c) && starts(view, nfkc)
+    id_start(view, c) && is_identifier(view, nfkc)
 }
 
 /// Whether a code point has XID_Continue: it has ID_Continue, and so has each member of its Normalisation Form KC,
@@ -40,7 +40,7 @@ pub fn xid_continue<W: FactView>(view: &W, c: Point, nfkc: &[Point]) -> bool
     requires { form_kc (W.facts_of view.now) (c ∷ []) ≡ Ok nfkc.now }
     ensures { result ≡ xid_continue (W.facts_of view.now) c }
 {
-    id_continue(view, c) && continues(view, nfkc)
+    id_continue(view, c) && all_continue(view, nfkc)
 }
 
 /// Whether a code point has XID_Start and XID_Continue. UAX #31, section 5.1.
@@ -70,23 +70,23 @@ pub fn closure_of<W: FactView>(view: &W, c: Point, facts: &FactsRef<'_>, form: &
         };
     }
     Closed {
-        start: id_start && starts(view, form),
-        continues: id_continue && continues(view, form),
+        start: id_start && is_identifier(view, form),
+        continues: id_continue && all_continue(view, form),
     }
 }
 
 /// Whether the list begins with a code point that has ID_Start, and each later one has ID_Continue.
-fn starts<W: FactView>(view: &W, points: &[Point]) -> bool
+fn is_identifier<W: FactView>(view: &W, points: &[Point]) -> bool
     ensures { result ≡ starts (W.facts_of view.now) points.now }
 {
     match points {
         [] => false,
-        [first, rest @ ..] => id_start(view, *first) && continues(view, rest),
+        [first, rest @ ..] => id_start(view, *first) && all_continue(view, rest),
     }
 }
 
 /// Whether each member has ID_Continue.
-fn continues<W: FactView>(view: &W, points: &[Point]) -> bool
+fn all_continue<W: FactView>(view: &W, points: &[Point]) -> bool
     ensures { result ≡ continues (W.facts_of view.now) points.now }
 {
     'members: for point in points {

@@ -37,7 +37,7 @@ pub struct FormsRef<'a> {
 
 impl Forms {
     /// The forms as slices.
-    pub fn shown(&self) -> FormsRef<'_>
+    pub fn as_ref(&self) -> FormsRef<'_>
         ensures changes { result.changes ≡ self.now.changes }
         ensures nfc { result.nfc.now ≡ self.now.nfc }
         ensures nfkc { result.nfkc.now ≡ form_kc self.now }
@@ -62,7 +62,7 @@ impl Forms {
 
 impl<'a> FormsRef<'a> {
     /// One list for all forms: that of a code point without a mapping.
-    pub fn alone<W: FactView>(view: &W, points: &'a [Point]) -> FormsRef<'a>
+    pub fn of_unmapped<W: FactView>(view: &W, points: &'a [Point]) -> FormsRef<'a>
         ensures changes { AreChanges (W.facts_of view.now) points.now result.changes }
         ensures nfc { result.nfc.now ≡ points.now }
         ensures nfkc { result.nfkc.now ≡ points.now }

@@ -24,7 +24,7 @@ pub struct ToldByForms {
 }
 
 /// Whether a code point with these facts, whose forms have these consequences, has the property. UAX #44, section 5.3.
-pub fn holds(core: Core, c: Point, facts: &FactsRef<'_>, told: ToldByForms) -> bool
+pub fn has_core_property(core: Core, c: Point, facts: &FactsRef<'_>, told: ToldByForms) -> bool
     ensures { result ≡ core_given c (shown_facts facts.now) told core }
 {
     match core {

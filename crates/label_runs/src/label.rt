@@ -49,7 +49,7 @@ impl LabelText {
     /// Makes it the label of a value: ` ; VALUE`.
     ///
     /// - `Memory`: memory ran out. Nothing is then known of the label.
-    pub fn list(&mut self, value: &[u8]) -> Result<(), Memory>
+    pub fn set_value(&mut self, value: &[u8]) -> Result<(), Memory>
         ensures { OnOk result (self.new ≡ listed value.now) }
     {
         self.text.truncate(0);
@@ -62,20 +62,20 @@ impl LabelText {
     /// Makes it the label of a value in two parts.
     ///
     /// - `Memory`: memory ran out. Nothing is then known of the label.
-    pub fn list_parts(&mut self, front: &[u8], back: &[u8]) -> Result<(), Memory>
+    pub fn set_value_parts(&mut self, front: &[u8], back: &[u8]) -> Result<(), Memory>
         ensures { OnOk result (self.new ≡ listed (front.now ++ back.now)) }
     {
-        self.list(front)?;
+        self.set_value(front)?;
         self.text.append(back)
     }
 
     /// Makes it the label of a name, ` ;` and code points after it, each with a space before it.
     ///
     /// - `Memory`: memory ran out. Nothing is then known of the label.
-    pub fn list_points(&mut self, name: &[u8], points: &[Point]) -> Result<(), Memory>
+    pub fn set_name_and_points(&mut self, name: &[u8], points: &[Point]) -> Result<(), Memory>
         ensures { OnOk result (self.new ≡ listed (name.now ++ codes " ;" ++ spaced points.now)) }
     {
-        self.list_parts(name, b" ;")?;
+        self.set_value_parts(name, b" ;")?;
         put_spaced(points, &mut self.text)
     }
 

@@ -4,7 +4,7 @@ ghost use Rattle.std.specs.Prelude.{◌≡◌, ℕ, ◌<◌, nat_eq, IfOk};
 ghost use Rattle.std.specs.List.{list_any};
 ghost use Rattle.layered_table.specs.Layers.{puts, word_at};
 
-use crate::painting::{Layer, layered};
+use crate::painting::{Layer, table_of_layers};
 use range_table::Stretches;
 use std::alloc::Global;
 use ucd_points::{Memory, Point, Span};
@@ -32,10 +32,10 @@ fn stretches_of<T: Stretches<u64>>(alloc: Global, table: &T) -> Result<Vec<Layer
 /// none does.
 ///
 /// - `Memory`: memory ran out.
-pub fn pieces(alloc: Global, base: u64, layers: &[Layer]) -> Result<Vec<Layer>, Memory>
+pub fn disjoint_layers(alloc: Global, base: u64, layers: &[Layer]) -> Result<Vec<Layer>, Memory>
     ensures { IfOk result (λ pieces. (word c : ℕ) → c < 1114112
         → list_any (puts word c) pieces.items ≡ nat_eq (word_at layers.now base c) word) }
 {
-    let table = layered(alloc, base, layers)?;
+    let table = table_of_layers(alloc, base, layers)?;
     stretches_of(alloc, &table)
 }

@@ -4,5 +4,5 @@
 mod cutting;
 mod painting;
 
-pub use cutting::pieces;
-pub use painting::{Layer, layered};
+pub use cutting::disjoint_layers;
+pub use painting::{Layer, table_of_layers};

@@ -25,7 +25,7 @@ pub struct Layer {
 /// of the table.
 ///
 /// - `Memory`: memory ran out.
-pub fn layered(alloc: Global, base: u64, layers: &[Layer]) -> Result<PagedTable, Memory>
+pub fn table_of_layers(alloc: Global, base: u64, layers: &[Layer]) -> Result<PagedTable, Memory>
     ensures { IfOk result (λ table. SameValues (values_now table) (word_at layers.now base)) }
 {
     let mut table = PagedTable::filled(alloc, base)?;

@@ -7,9 +7,9 @@ use Rattle.number_sets.specs.Keys.{has, is_in}
 use Rattle.number_sets.specs.Bits.{has_number}
 use Rattle.mention_index.specs.Steps.{key}
 use Rattle.mention_index.specs.declared.mentions.Mentions.{Mentions}
-use Rattle.mention_index.specs.declared.mentions.Mentioning.{Mentioning}
+use Rattle.mention_index.specs.declared.mentions.MentionsBuilder.{MentionsBuilder}
 
-abbrev pub puts : Mentioning → ℕ → ℕ → Bool
+abbrev pub puts : MentionsBuilder → ℕ → ℕ → Bool
 puts listing x c = is_in listing.keys.items (key x c)
 
 abbrev pub leads : Mentions → ℕ → ℕ → Bool

@@ -14,7 +14,7 @@ const ROOM: u64 = 2_097_152;
 /// Puts the code points to which there is a step from this one behind others.
 ///
 /// - `Memory`: memory ran out. None that was there is lost, and some of these may stand behind them.
-pub fn put_led(steps: &KeySet, x: Point, pending: &mut Vec<Point>) -> Result<(), Memory>
+pub fn push_mentioning(steps: &KeySet, x: Point, pending: &mut Vec<Point>) -> Result<(), Memory>
     ensures grows { (k : ℕ) → is_in pending.old.items k ≡ true → is_in pending.new.items k ≡ true }
     ensures only { (d : ℕ) → is_in pending.new.items d ≡ true
         → (is_in pending.old.items d ≡ true) ⊎ ((d < 1114112) × (has steps.now (key x d) ≡ true)) }

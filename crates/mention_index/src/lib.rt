@@ -7,4 +7,4 @@ mod mentions;
 mod putting;
 mod reaching;
 
-pub use mentions::{Mentioning, Mentions};
+pub use mentions::{Mentions, MentionsBuilder};

@@ -24,18 +24,18 @@ pub struct Mentions {
 
 /// Mentions that are put one after another.
 #[derive(Drop)]
-pub struct Mentioning {
+pub struct MentionsBuilder {
     pub(crate) alloc: Global,
     // the keys of the steps
     pub(crate) keys: Vec<u64>,
 }
 
-impl Mentioning {
+impl MentionsBuilder {
     /// No code point mentions any. It takes no memory.
-    pub fn new(alloc: Global) -> Mentioning
+    pub fn new(alloc: Global) -> MentionsBuilder
         ensures { (x c : ℕ) → puts result x c ≡ false }
     {
-        Mentioning {
+        MentionsBuilder {
             alloc,
             keys: Vec::new(alloc),
         }

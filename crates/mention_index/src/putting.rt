@@ -8,10 +8,10 @@ ghost use Rattle.mention_index.specs.Mentions.{puts};
 ghost use Rattle.mention_index.specs.Reached.{members_of};
 ghost use Rattle.mention_index.specs.Steps.{HasStepsTo, LeadFrom, image_members, key, simple_members};
 
-use crate::mentions::Mentioning;
+use crate::mentions::MentionsBuilder;
 use ucd_model::{FactView, FactsRef, Memory, Point};
 
-impl Mentioning {
+impl MentionsBuilder {
     /// Puts the steps to a code point from the members of its mappings, and, if it is a primary composite, from it to the first
     /// member of its mapping. The Unicode Standard, section 3.11, D114.
     ///
@@ -23,14 +23,14 @@ impl Mentioning {
         let facts = view.facts(c);
         put_members(&mut self.keys, &facts, c)?;
         if facts.is_primary(view) {
-            put_first(&mut self.keys, c, facts.mapping)?;
+            put_first_step(&mut self.keys, c, facts.mapping)?;
         }
         Ok(())
     }
 }
 
 /// Puts the key of the step from a primary composite to the first member of its mapping.
-fn put_first(keys: &mut Vec<u64>, c: Point, mapping: &[Point]) -> Result<(), Memory>
+fn put_first_step(keys: &mut Vec<u64>, c: Point, mapping: &[Point]) -> Result<(), Memory>
     ensures grows { (k : ℕ) → has_key keys.old.items k ≡ true → has_key keys.new.items k ≡ true }
     ensures put { OnOk result ((s : ℕ) (rest : List ℕ) → mapping.now ≡ s ∷ rest
         → (s < 1114112) × (has_key keys.new.items (key c s) ≡ true)) }

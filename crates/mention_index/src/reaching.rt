@@ -11,7 +11,7 @@ ghost use Rattle.number_sets.specs.Bits.{has_number};
 ghost use Rattle.mention_index.specs.Steps.{IsClosed, IsReached, key};
 ghost use Rattle.mention_index.specs.Walks.{ComesFrom, by_keys, left};
 
-use crate::leading::put_led;
+use crate::leading::push_mentioning;
 use crate::mentions::Mentions;
 use number_sets::{BitSet, KeySet};
 use std::alloc::Global;
@@ -34,7 +34,7 @@ impl Mentions {
             → (is_walked self.old c ≡ false) × IsReached (leads self.old) queries.now c) }
     {
         let pending = points_about(alloc, queries)?;
-        let points = walk(alloc, &self.steps, &mut self.walked, pending)?;
+        let points = reach_all(alloc, &self.steps, &mut self.walked, pending)?;
         Ok(points)
     }
 }
@@ -67,7 +67,7 @@ fn point_about(query: &Query) -> Point
 /// before.
 ///
 /// - `Memory`: memory ran out. One may have gone on from some of them.
-fn walk(
+fn reach_all(
     alloc: Global,
     steps: &KeySet,
     walked: &mut BitSet,
@@ -84,7 +84,7 @@ fn walk(
 {
     let mut reached = Points::new(alloc);
     'walk: while let Some(x) = pending.pop() {
-        go_on(steps, x, walked, &mut pending, &mut reached)?;
+        reach_from(steps, x, walked, &mut pending, &mut reached)?;
     }
     Ok(reached)
 }
@@ -93,7 +93,7 @@ fn walk(
 /// which there is a step from it are put behind the pending ones.
 ///
 /// - `Memory`: memory ran out. Some may be put.
-fn go_on(
+fn reach_from(
     steps: &KeySet,
     x: Point,
     walked: &mut BitSet,
@@ -117,7 +117,7 @@ fn go_on(
     if walked.has(number) {
         return Ok(());
     }
-    put_led(steps, x, pending)?;
+    push_mentioning(steps, x, pending)?;
     walked.insert(number)?;
     reached.push(x)?;
     Ok(())

@@ -74,7 +74,7 @@ fn column_miss(line: u32, form: Form, column: u8) -> Miss
 /// Puts what a release misses of a case: by form, and then by column.
 ///
 /// - `Memory`: memory ran out.
-pub fn put_case<W: FactView>(
+pub fn put_misses_of_case<W: FactView>(
     alloc: Global,
     view: &W,
     case: &Case,

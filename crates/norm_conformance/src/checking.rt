@@ -7,7 +7,7 @@ ghost use Rattle.norm_conformance.specs.Misses.{line_misses, misses, missed_form
 ghost use Rattle.norm_conformance.specs.ValidFacts.{AreOfValidRows};
 
 use crate::case::{Case, Cases};
-use crate::case_check::put_case;
+use crate::case_check::put_misses_of_case;
 use crate::form_check::{Expected, check_forms_of_list, put_unless};
 use crate::listed::{is_among, listed_points};
 use crate::miss::{Miss, Misses};
@@ -25,10 +25,10 @@ pub fn misses<W: FactView>(alloc: Global, view: &W, cases: &Cases) -> Result<Mis
     ensures { IfOk result (λ found. found ≡ misses (W.facts_of view.now) cases.now) }
 {
     let mut found = Misses::new(alloc);
-    put_cases(alloc, view, cases.list.as_slice(), &mut found)?;
+    put_misses_of_cases(alloc, view, cases.list.as_slice(), &mut found)?;
     if cases.part_one {
         let listed = listed_points(alloc, cases.list.as_slice())?;
-        put_points(alloc, view, &listed, &mut found)?;
+        put_misses_of_points(alloc, view, &listed, &mut found)?;
     }
     Ok(found)
 }
@@ -36,7 +36,7 @@ pub fn misses<W: FactView>(alloc: Global, view: &W, cases: &Cases) -> Result<Mis
 /// Puts what is missed of each case.
 ///
 /// - `Memory`: memory ran out.
-fn put_cases<W: FactView>(
+fn put_misses_of_cases<W: FactView>(
     alloc: Global,
     view: &W,
     cases: &[Case],
@@ -47,7 +47,7 @@ fn put_cases<W: FactView>(
         ++ flat_map (line_misses (W.facts_of view.now)) cases.now) }
 {
     'cases: for case in cases {
-        put_case(alloc, view, case, found)?;
+        put_misses_of_case(alloc, view, case, found)?;
     }
     Ok(())
 }
@@ -55,7 +55,7 @@ fn put_cases<W: FactView>(
 /// Puts what is missed of each assigned code point that is not listed.
 ///
 /// - `Memory`: memory ran out.
-fn put_points<W: FactView>(
+fn put_misses_of_points<W: FactView>(
     alloc: Global,
     view: &W,
     listed: &KeySet,
@@ -67,7 +67,7 @@ fn put_points<W: FactView>(
 {
     let count = point_count();
     'points: for number in 0..count {
-        put_point(alloc, view, listed, Point::at(number), found)?;
+        put_misses_of_point(alloc, view, listed, Point::at(number), found)?;
     }
     Ok(())
 }
@@ -76,7 +76,7 @@ fn put_points<W: FactView>(
 /// forms.
 ///
 /// - `Memory`: memory ran out.
-fn put_point<W: FactView>(
+fn put_misses_of_point<W: FactView>(
     alloc: Global,
     view: &W,
     listed: &KeySet,
@@ -90,13 +90,13 @@ fn put_point<W: FactView>(
     if !view.is_assigned(c) || matches!(view.kind(c), Kind::Plain) || is_among(listed, c) {
         return Ok(());
     }
-    put_forms(alloc, view, c, found)
+    put_misses_of_forms(alloc, view, c, found)
 }
 
 /// Puts the forms of a code point that are not itself.
 ///
 /// - `Memory`: memory ran out.
-fn put_forms<W: FactView>(
+fn put_misses_of_forms<W: FactView>(
     alloc: Global,
     view: &W,
     c: Point,

@@ -71,14 +71,14 @@ pub fn columns_of(content: &[u8]) -> Result<Columns<'_>, CaseRule>
     let Some(f5) = left.next() else {
         return Err(CaseRule::N1);
     };
-    if !is_end(left) {
+    if !has_no_more_fields(left) {
         return Err(CaseRule::N1);
     }
     five_columns(f1, f2, f3, f4, f5)
 }
 
 /// Whether nothing is left, or one empty field.
-fn is_end(mut left: Fields<'_>) -> bool
+fn has_no_more_fields(mut left: Fields<'_>) -> bool
     ensures { result ≡ is_end left.entry }
 {
     match left.next() {

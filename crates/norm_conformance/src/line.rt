@@ -20,14 +20,14 @@ pub enum Line<'a> {
 }
 
 /// Whether a line is blank, or a comment.
-fn is_passed(content: &[u8]) -> bool
+fn is_blank_or_comment(content: &[u8]) -> bool
     ensures { result ≡ is_passed content.now }
 {
     is_trivia(SourceFile::PropList, content)
 }
 
 /// What stands before the comment, without white space around it.
-fn text_of(content: &[u8]) -> &[u8]
+fn text_before_comment(content: &[u8]) -> &[u8]
     ensures { result.now ≡ text_of content.now }
 {
     trim(cut(content, b'#').0)
@@ -61,10 +61,10 @@ fn part_of(text: &[u8]) -> Option<u8>
 pub fn line_of(content: &[u8]) -> Result<Line<'_>, CaseRule>
     ensures { result ≡ said content.now }
 {
-    if is_passed(content) {
+    if is_blank_or_comment(content) {
         return Ok(Line::Passed);
     }
-    let text = text_of(content);
+    let text = text_before_comment(content);
     if !matches!(text, [b'@', ..]) {
         return Ok(Line::Tested(columns_of(content)?));
     }

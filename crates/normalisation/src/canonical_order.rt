@@ -11,12 +11,12 @@ pub fn order<W: FactView>(view: &W, s: &mut Points)
     ensures { s.new ≡ order (class_of (W.facts_of view.now)) s.old }
 {
     'points: for at in 0..s.len() {
-        place(view, s, at);
+        insert_in_order(view, s, at);
     }
 }
 
 /// Puts the code point at `at` among the ones before it, which are in order.
-fn place<W: FactView>(view: &W, s: &mut Points, at: usize)
+fn insert_in_order<W: FactView>(view: &W, s: &mut Points, at: usize)
     requires { at < length s.old }
     ensures { s.new ≡ with_next (class_of (W.facts_of view.now)) (take at s.old)
         (slice_index s.old at) ++ drop (at + 1) s.old }

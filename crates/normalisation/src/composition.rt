@@ -7,7 +7,7 @@ ghost use Rattle.ucd_facts.specs.Composites.{pair_of};
 ghost use Rattle.ucd_model.specs.Composition.{last_starter, composed_with, compose};
 ghost use Rattle.normalisation.specs.SoFar.{joined, Describes};
 
-use crate::starter::{Starter, passes, starter_behind};
+use crate::starter::{Starter, is_unblocked, starter_behind};
 use ucd_model::{FactView, Point, Points};
 
 /// What is composed so far, at the front of the list: how many code points, and the last starter among them.
@@ -56,7 +56,7 @@ fn put_next<W: FactView>(view: &W, s: &mut Points, so_far: SoFar, at: usize) -> 
 {
     let y = s.as_slice()[at];
     let class = view.class(y);
-    match joined(view, s, so_far.starter, y, class) {
+    match composite_with_starter(view, s, so_far.starter, y, class) {
         Some(join) => {
             s.replace(join.at, join.point);
             so_far
@@ -73,7 +73,7 @@ fn put_next<W: FactView>(view: &W, s: &mut Points, so_far: SoFar, at: usize) -> 
 
 /// The composite of the last starter and a code point of this class, if there is one and the code point is not
 /// blocked.
-fn joined<W: FactView>(
+fn composite_with_starter<W: FactView>(
     view: &W,
     s: &Points,
     starter: Option<Starter<usize>>,
@@ -84,7 +84,7 @@ fn joined<W: FactView>(
     ensures { result ≡ joined (pair_of (W.facts_of view.now)) s.now starter y class }
 {
     let starter = starter?;
-    if !passes(starter.highest, class) {
+    if !is_unblocked(starter.highest, class) {
         return None;
     }
     let point = view.pair(s.as_slice()[starter.which], y)?;

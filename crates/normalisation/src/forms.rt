@@ -5,7 +5,7 @@ ghost use Rattle.ucd_model.specs.Forms.{expansions, decomposed, composed, nfd, n
 ghost use Rattle.normalisation.specs.Puts.{PutsExpansion};
 
 use crate::{compose, order};
-use decomposition::{counted, expand};
+use decomposition::{expand, mapping_if_counted};
 use std::alloc::Global;
 use ucd_model::{FactView, FormStop, Point, Points};
 
@@ -106,7 +106,7 @@ fn put_expansion<W: FactView>(
     ensures { PutsExpansion points.old points.new result
         (expansion (W.facts_of view.now) compat c) }
 {
-    if counted(view, compat, c).is_empty() {
+    if mapping_if_counted(view, compat, c).is_empty() {
         points.push(c)?;
     } else {
         points.append(expand(alloc, view, compat, c)?.as_slice())?;

@@ -14,4 +14,4 @@ pub use all_forms::{Forms, four_forms};
 pub use canonical_order::order;
 pub use composition::compose;
 pub use forms::{nfc, nfd, nfkc, nfkd};
-pub use starter::{Starter, passes, starter_behind};
+pub use starter::{Starter, is_unblocked, starter_behind};

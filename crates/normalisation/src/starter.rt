@@ -15,7 +15,7 @@ pub struct Starter<S> {
 
 /// Whether a class is greater than the greatest one after the last starter, so that a code point of this class is not
 /// blocked. The Unicode Standard, section 3.11, D115.
-pub fn passes(highest: Option<u8>, class: u8) -> bool
+pub fn is_unblocked(highest: Option<u8>, class: u8) -> bool
     ensures { result ≡ passes highest class }
 {
     match highest {

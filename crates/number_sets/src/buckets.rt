@@ -75,7 +75,7 @@ impl Buckets {
     }
 
     /// Where the bucket of a number begins and ends in a list of so many keys; the whole list if nothing is known.
-    pub fn place(&self, number: u64, keys: usize) -> (usize, usize) {
+    pub fn bucket_bounds(&self, number: u64, keys: usize) -> (usize, usize) {
         let at = (self.bucket(number) % BUCKETS) as usize;
         match (self.begins.get(at), self.begins.get(at + 1)) {
             (Some(begin), Some(end)) => (*begin as usize, *end as usize),

@@ -74,12 +74,12 @@ impl KeySet {
     pub fn next(&self, start: u64) -> Option<u64>
         ensures { IsNext (has self.now) start result }
     {
-        let (begin, end) = self.buckets.place(start, self.sorted.len());
-        let listed = next_listed(self.sorted.as_slice(), begin, end, start);
+        let (begin, end) = self.buckets.bucket_bounds(start, self.sorted.len());
+        let listed = next_in_sorted(self.sorted.as_slice(), begin, end, start);
         if self.more.is_empty() {
             return listed;
         }
-        least(listed, next_put(&self.more, start))
+        least(listed, next_inserted(&self.more, start))
     }
 }
 
@@ -96,7 +96,7 @@ fn ascending(mut keys: Vec<u64>) -> Vec<u64>
 
 /// The least number of an ascending list at or above `start`. It is looked for from `begin` to `end` first, and may stand
 /// anywhere.
-fn next_listed(sorted: &[u64], begin: usize, end: usize, start: u64) -> Option<u64>
+fn next_in_sorted(sorted: &[u64], begin: usize, end: usize, start: u64) -> Option<u64>
     requires { IsStrictlyIncreasing sorted.now }
     ensures { IsNext (is_in sorted.now) start result }
 {
@@ -165,7 +165,7 @@ fn place_between(sorted: &[u64], begin: usize, end: usize, start: u64) -> usize
 }
 
 /// The least number of a tree at or above `start`.
-fn next_put(more: &BTreeSet<u64>, start: u64) -> Option<u64>
+fn next_inserted(more: &BTreeSet<u64>, start: u64) -> Option<u64>
     ensures { IsNext (contains nat_cmp more.now) start result }
 {
     more.range(start..).next().copied()

@@ -7,7 +7,7 @@ ghost use Rattle.paged_table.specs.Layers.{IsApart, Covers};
 ghost use Rattle.range_table.specs.Values.{with_span};
 
 use crate::block::Block;
-use crate::part::{give_own, put_part, put_whole};
+use crate::part::{give_back_own_page, put_part, put_whole};
 use page_pool::PagePool;
 
 /// The code points of a block.
@@ -55,7 +55,7 @@ pub fn fill_block(pool: &mut PagePool, now: &[Block], next: &mut [Block], block:
 }
 
 /// Makes the blocks of `into` those of `from`. They differ in the touched blocks alone. It takes no memory.
-pub fn settle(pool: &mut PagePool, from: &[Block], into: &mut [Block], touched: &[u32])
+pub fn copy_touched_blocks(pool: &mut PagePool, from: &[Block], into: &mut [Block], touched: &[u32])
     requires apart { IsApart pool.old from.now into.old }
     requires covers { Covers touched.now from.now into.old }
     ensures apart { IsApart pool.new from.now into.new }
@@ -64,7 +64,7 @@ pub fn settle(pool: &mut PagePool, from: &[Block], into: &mut [Block], touched: 
 {
     for block in touched {
         let at = *block as usize;
-        give_own(pool, from[at], into[at]);
+        give_back_own_page(pool, from[at], into[at]);
         into[at] = from[at];
     }
 }

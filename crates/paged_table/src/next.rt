@@ -19,7 +19,7 @@ pub fn next_blocks<'b>(now: &'b [Block], own: &'b [Block]) -> &'b [Block]
 /// Gives the blocks next a list of their own, if they have none.
 ///
 /// - `Memory`: memory ran out.
-pub fn part_next(now: &[Block], own: &mut Vec<Block>) -> Result<(), Memory>
+pub fn make_own_blocks(now: &[Block], own: &mut Vec<Block>) -> Result<(), Memory>
     ensures same { blocks_next now.now own.new.items ≡ blocks_next now.now own.old.items }
     ensures own { OnOk result (own.new.items ≡ blocks_next now.now own.old.items) }
 {

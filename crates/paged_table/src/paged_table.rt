@@ -6,8 +6,8 @@ ghost use Rattle.paged_table.specs.Layers.{IsUnused, IsFilled};
 ghost use Rattle.paged_table.specs.Pages.{ShowsPage, uneven_count, block_count};
 
 use crate::block::Block;
-use crate::layers::{BLOCKS, WIDTH, settle};
-use crate::next::{next_blocks, part_next};
+use crate::layers::{BLOCKS, WIDTH, copy_touched_blocks};
+use crate::next::{make_own_blocks, next_blocks};
 use crate::span::prepare_span;
 use crate::stretches::last_alike;
 use crate::value::value_in;
@@ -111,7 +111,7 @@ impl Table<u64> for PagedTable {
     }
 
     fn prepare(&mut self, span: Span, value: u64) -> Result<(), Memory> {
-        part_next(&self.committed, &mut self.prepared)?;
+        make_own_blocks(&self.committed, &mut self.prepared)?;
         prepare_span(
             &mut self.pool,
             &mut self.touched,
@@ -126,7 +126,7 @@ impl Table<u64> for PagedTable {
         if self.prepared.is_empty() {
             return;
         }
-        settle(
+        copy_touched_blocks(
             &mut self.pool,
             &self.prepared,
             &mut self.committed,
@@ -139,7 +139,7 @@ impl Table<u64> for PagedTable {
         if self.prepared.is_empty() {
             return;
         }
-        settle(
+        copy_touched_blocks(
             &mut self.pool,
             &self.committed,
             &mut self.prepared,

@@ -18,11 +18,11 @@ pub fn put_part(pool: &mut PagePool, now: Block, next: Block, lo: u8, hi: u8, va
     ensures puts { Puts pool.old pool.new now next result lo hi value }
     ensures room { spare pool.old ≤ spare pool.new + 1 }
 {
-    if is_one_then(pool, next, lo, hi, value) {
+    if is_even_after(pool, next, lo, hi, value) {
         return put_whole(pool, now, next, value);
     }
     let page = own_page(pool, now, next);
-    write(pool, page, lo, hi, value);
+    fill_words(pool, page, lo, hi, value);
     Block::Page(page)
 }
 
@@ -38,12 +38,12 @@ pub fn put_whole(pool: &mut PagePool, now: Block, next: Block, value: u64) -> Bl
     ensures words { (p a : ℕ) → word_of pool.new p a ≡ word_of pool.old p a }
     ensures room { spare pool.old ≤ spare pool.new }
 {
-    give_own(pool, now, next);
+    give_back_own_page(pool, now, next);
     Block::One(value)
 }
 
 /// Gives back the page of `next`, if it has one that `now` does not have.
-pub fn give_own(pool: &mut PagePool, now: Block, next: Block)
+pub fn give_back_own_page(pool: &mut PagePool, now: Block, next: Block)
     requires { (p : ℕ) → is_page p next ≡ true → is_live pool.old p ≡ true }
     ensures now { (p : ℕ) → is_page p now ≡ true → is_live pool.new p ≡ is_live pool.old p }
     ensures others { (p : ℕ) → is_page p next ≡ false → is_live pool.new p ≡ is_live pool.old p }
@@ -60,19 +60,19 @@ pub fn give_own(pool: &mut PagePool, now: Block, next: Block)
 }
 
 /// Whether all values of a block are equal to `value` once those from `lo` to `hi` are.
-fn is_one_then(pool: &PagePool, block: Block, lo: u8, hi: u8, value: u64) -> bool
+fn is_even_after(pool: &PagePool, block: Block, lo: u8, hi: u8, value: u64) -> bool
     requires { (p : ℕ) → is_page p block ≡ true → is_live pool.now p ≡ true }
     ensures even { IsTrue result → IsOutside (value_of pool.now block) lo hi value }
     ensures uneven { IsOutside (value_of pool.now block) lo hi value → IsTrue result }
 {
     match block {
         Block::One(word) => word == value || (lo == 0 && hi == 255),
-        Block::Page(page) => is_outside(pool, page, lo, hi, value),
+        Block::Page(page) => is_even_outside(pool, page, lo, hi, value),
     }
 }
 
 /// Whether all words of a page outside of `lo` to `hi` are equal to `value`.
-fn is_outside(pool: &PagePool, page: u32, lo: u8, hi: u8, value: u64) -> bool
+fn is_even_outside(pool: &PagePool, page: u32, lo: u8, hi: u8, value: u64) -> bool
     requires { is_live pool.now page ≡ true }
     ensures even { IsTrue result → IsOutside (word_of pool.now page) lo hi value }
     ensures uneven { IsOutside (word_of pool.now page) lo hi value → IsTrue result }
@@ -118,14 +118,14 @@ fn own_page(pool: &mut PagePool, now: Block, next: Block) -> u32
         }
         Block::One(value) => {
             let own = pool.take();
-            write(pool, own, 0, 255, value);
+            fill_words(pool, own, 0, 255, value);
             own
         }
     }
 }
 
 /// Sets the words of a page from `lo` to `hi`.
-fn write(pool: &mut PagePool, page: u32, lo: u8, hi: u8, value: u64)
+fn fill_words(pool: &mut PagePool, page: u32, lo: u8, hi: u8, value: u64)
     requires live { is_live pool.old page ≡ true }
     requires ordered { lo ≤ hi }
     ensures words { (a : ℕ) → a < 256

@@ -33,7 +33,7 @@ pub fn prepare_span(
     ensures err { OnErr result ((c : ℕ) → values pool.new next.new c ≡ values pool.old next.old c) }
 {
     pool.reserve(2)?;
-    touch(
+    list_touched(
         touched,
         now,
         next,
@@ -47,7 +47,7 @@ pub fn prepare_span(
 /// Lists the blocks from `first` to `last` as touched.
 ///
 /// - `Memory`: memory ran out. Some of them may be listed.
-fn touch(
+fn list_touched(
     touched: &mut Vec<u32>,
     now: &[Block],
     next: &[Block],

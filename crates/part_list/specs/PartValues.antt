@@ -6,8 +6,8 @@
 -- shown version part        what is now, or what is next
 -- parts_now, parts_next     of each part what is now, and what is next
 use Rattle.std.specs.Prelude.{Bool, false, ◌||◌, nat_lt, List, length, map}
-use Rattle.part_list.specs.declared.version.Version.{Version}
-use Rattle.part_list.specs.declared.version.Version.TheVariants.{Now, Next}
+use Rattle.part_list.specs.declared.now_or_next.NowOrNext.{NowOrNext}
+use Rattle.part_list.specs.declared.now_or_next.NowOrNext.TheVariants.{Now, Next}
 
 pub record PartValue (A : Type 0) : Type 0 where
   pub now : List A
@@ -23,7 +23,7 @@ discarded part = record { now = part.now; next = part.now; edited = false }
 abbrev pub has_entries : {A : Type 0} → PartValue A → Bool
 has_entries part = nat_lt 0 (length part.now) || nat_lt 0 (length part.next)
 
-abbrev pub shown : {A : Type 0} → Version → PartValue A → List A
+abbrev pub shown : {A : Type 0} → NowOrNext → PartValue A → List A
 shown Now part = part.now
 shown Next part = part.next
 

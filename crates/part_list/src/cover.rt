@@ -11,11 +11,11 @@ ghost use Rattle.part_list.specs.declared.entry.Entry.{Entry};
 
 use crate::entry::Entry;
 use crate::find::first_in;
+use crate::now_or_next::NowOrNext;
 use crate::part::Part;
 use crate::put::Put;
 use crate::seek::Seek;
 use crate::seen_numbers::entry_count;
-use crate::version::Version;
 use number_sets::BitSet;
 use std::alloc::Global;
 use ucd_points::Point;
@@ -154,7 +154,7 @@ impl<T: Copy> Cover<T> {
     {
         self.put_all(part.next());
         if part.is_edited() {
-            self.put_all(part.shown(Version::Now));
+            self.put_all(part.entries_in(NowOrNext::Now));
         }
     }
 

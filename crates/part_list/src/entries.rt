@@ -5,14 +5,14 @@ ghost use Rattle.part_list.specs.Parts.{flat};
 ghost use Rattle.part_list.specs.PartValues.{shown};
 
 use crate::entry::Entry;
+use crate::now_or_next::NowOrNext;
 use crate::part::Part;
-use crate::version::Version;
 use std::marker::Model;
 
 /// The entries of a list that are left, in order. Contracts see the list of them.
 #[derive(Drop)]
 pub struct Entries<'a, T: Copy> {
-    version: Version,
+    version: NowOrNext,
     /// The entries of the part that was begun.
     entries: &'a [Entry<T>],
     parts: &'a [Part<T>],
@@ -31,7 +31,7 @@ impl<'a, T: Copy> Model for Entries<'a, T> {
 
 impl<'a, T: Copy> Entries<'a, T> {
     /// The entries of these parts.
-    pub(crate) fn new(version: Version, parts: &'a [Part<T>]) -> Entries<'a, T>
+    pub(crate) fn new(version: NowOrNext, parts: &'a [Part<T>]) -> Entries<'a, T>
         ensures { result ≡ flat (map (shown version) parts.now) }
     {
         Entries {
@@ -60,7 +60,7 @@ impl<'a, T: Copy> Iterator for Entries<'a, T> {
             let [part, rest @ ..] = self.parts else {
                 return None;
             };
-            self.entries = part.shown(self.version);
+            self.entries = part.entries_in(self.version);
             self.parts = rest;
         }
     }

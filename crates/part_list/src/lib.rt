@@ -10,6 +10,7 @@ mod fill;
 mod find;
 mod guides;
 mod hints;
+mod now_or_next;
 mod order;
 mod part;
 mod part_list;
@@ -21,7 +22,6 @@ mod search;
 mod seek;
 mod seen_numbers;
 mod spot;
-mod version;
 
 pub use entries::Entries;
 pub use entry::Entry;

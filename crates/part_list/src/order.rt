@@ -39,7 +39,7 @@ pub fn is_ordered_around<T: Copy>(entries: &[Entry<T>], at: usize) -> bool
 }
 
 /// Whether entries in order stay so with one more at the end.
-pub fn goes_on<T: Copy>(entries: &[Entry<T>], entry: &Entry<T>) -> bool
+pub fn stays_ordered_with<T: Copy>(entries: &[Entry<T>], entry: &Entry<T>) -> bool
     ensures { result ≡ true → IsOrdered entries.now → IsOrdered (entries.now ++ entry.now ∷ []) }
 {
     let len = entries.len();
@@ -64,7 +64,7 @@ fn reach_between<T: Copy>(entries: &[Entry<T>], reach: Reach, from: usize, to: u
 }
 
 /// Whether bounds tell that none of the entries in order from one place up to another one passes.
-fn rules_out<T: Copy, S: Seek<T>>(
+fn none_passes_between<T: Copy, S: Seek<T>>(
     entries: &[Entry<T>],
     reach: Reach,
     seek: &S,
@@ -81,7 +81,7 @@ fn rules_out<T: Copy, S: Seek<T>>(
 }
 
 /// The place before which no entry passes, as far as the bounds of some of the first entries tell.
-fn first_left<T: Copy, S: Seek<T>>(entries: &[Entry<T>], reach: Reach, seek: &S) -> usize
+fn first_possible<T: Copy, S: Seek<T>>(entries: &[Entry<T>], reach: Reach, seek: &S) -> usize
     requires ordered { IsOrdered entries.now }
     requires reach { All (IsWithin reach) entries.now }
     ensures within { result ≤ length entries.now }
@@ -91,7 +91,7 @@ fn first_left<T: Copy, S: Seek<T>>(entries: &[Entry<T>], reach: Reach, seek: &S)
     let mut to = entries.len();
     'halves: while from < to {
         let middle = to - (to - from) / 2;
-        if rules_out(entries, reach, seek, from, middle) {
+        if none_passes_between(entries, reach, seek, from, middle) {
             from = middle;
         } else {
             to = middle - 1;
@@ -101,7 +101,12 @@ fn first_left<T: Copy, S: Seek<T>>(entries: &[Entry<T>], reach: Reach, seek: &S)
 }
 
 /// The place from which on no entry passes, if bounds tell so of all from the given place on or of all but one; else the length.
-fn end_left<T: Copy, S: Seek<T>>(entries: &[Entry<T>], reach: Reach, seek: &S, from: usize) -> usize
+fn end_of_possible<T: Copy, S: Seek<T>>(
+    entries: &[Entry<T>],
+    reach: Reach,
+    seek: &S,
+    from: usize,
+) -> usize
     requires ordered { IsOrdered entries.now }
     requires reach { All (IsWithin reach) entries.now }
     requires from { from ≤ length entries.now }
@@ -110,10 +115,10 @@ fn end_left<T: Copy, S: Seek<T>>(entries: &[Entry<T>], reach: Reach, seek: &S, f
     ensures none { NoneIn (S.passing seek.now) entries.now result (length entries.now) }
 {
     let len = entries.len();
-    if from < len && rules_out(entries, reach, seek, from, len) {
+    if from < len && none_passes_between(entries, reach, seek, from, len) {
         return from;
     }
-    if len - from > 1 && rules_out(entries, reach, seek, from + 1, len) {
+    if len - from > 1 && none_passes_between(entries, reach, seek, from + 1, len) {
         return from + 1;
     }
     len
@@ -126,6 +131,6 @@ pub fn window<T: Copy, S: Seek<T>>(entries: &[Entry<T>], reach: Reach, seek: &S)
     requires reach { All (IsWithin reach) entries.now }
     ensures { IsWindow (S.passing seek.now) entries.now result.0 result.1 }
 {
-    let from = first_left(entries, reach, seek);
-    (from, end_left(entries, reach, seek, from))
+    let from = first_possible(entries, reach, seek);
+    (from, end_of_possible(entries, reach, seek, from))
 }

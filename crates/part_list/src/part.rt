@@ -11,11 +11,11 @@ ghost use Rattle.part_list.specs.Reaches.{IsWithin};
 
 use crate::entry::Entry;
 use crate::find::{first_in, last_in};
-use crate::order::{goes_on, is_ordered, is_ordered_around, window};
+use crate::now_or_next::NowOrNext;
+use crate::order::{is_ordered, is_ordered_around, stays_ordered_with, window};
 use crate::put::{Put, spliced};
 use crate::reach::Reach;
 use crate::seek::Seek;
-use crate::version::Version;
 use std::alloc::Global;
 use std::marker::Model;
 use ucd_points::{Copied, ListOf, Memory};
@@ -85,12 +85,12 @@ impl<T: Copy> Part<T> {
     }
 
     /// The entries now, or next.
-    pub fn shown(&self, version: Version) -> &[Entry<T>]
+    pub fn entries_in(&self, version: NowOrNext) -> &[Entry<T>]
         ensures { result.now ≡ shown version self.now }
     {
         match version {
-            Version::Now => self.kept.as_slice(),
-            Version::Next => self.next(),
+            NowOrNext::Now => self.kept.as_slice(),
+            NowOrNext::Next => self.next(),
         }
     }
 
@@ -154,7 +154,7 @@ impl<T: Copy> Part<T> {
             }) }
         ensures err { OnErr result (self.new ≡ self.old) }
     {
-        let ordered = self.ordered & goes_on(self.kept.as_slice(), &entry);
+        let ordered = self.ordered & stays_ordered_with(self.kept.as_slice(), &entry);
         self.kept.push(entry)?;
         self.reach = self.reach.with(&entry);
         self.ordered = ordered;

@@ -45,7 +45,7 @@ impl<'a, T: Copy, S: Seek<T>> Model for Passing<'a, T, S> {
 }
 
 /// The entries behind the one at a place.
-fn behind<T: Copy>(entries: &[Entry<T>], at: usize) -> &[Entry<T>]
+fn entries_after<T: Copy>(entries: &[Entry<T>], at: usize) -> &[Entry<T>]
     requires { at < length entries.now }
     ensures { result.now ≡ drop (at + 1) entries.now }
 {
@@ -81,7 +81,7 @@ impl<'a, T: Copy, S: Seek<T>> Iterator for Passing<'a, T, S> {
         'parts: loop {
             if let Some(at) = first_in(self.entries, self.seek) {
                 let entry = self.entries[at];
-                self.entries = behind(self.entries, at);
+                self.entries = entries_after(self.entries, at);
                 return Some(entry);
             }
             let slot = next_slot(self.guides, self.parts, self.seek, self.slot);

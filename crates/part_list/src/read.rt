@@ -8,12 +8,12 @@ ghost use Rattle.part_list.specs.Parts.{IsEntry, next_in, now_in, part_at, place
 
 use crate::entries::Entries;
 use crate::entry::Entry;
+use crate::now_or_next::NowOrNext;
 use crate::part_list::PartList;
 use crate::passing::Passing;
 use crate::search::{first_spot, first_spot_behind, last_spot, place_of, spot_at, spot_before};
 use crate::seek::Seek;
 use crate::spot::Spot;
-use crate::version::Version;
 
 impl<T: Copy> PartList<T> {
     /// The entry next at a spot.
@@ -101,7 +101,7 @@ impl<T: Copy> PartList<T> {
         requires { slot < length self.now.now }
         ensures { result.now ≡ part_at self.now.now slot }
     {
-        self.parts[slot].shown(Version::Now)
+        self.parts[slot].entries_in(NowOrNext::Now)
     }
 
     /// The entries next of a part that was edited since the last `commit` or `discard`; `None` of one that was not, which
@@ -122,13 +122,13 @@ impl<T: Copy> PartList<T> {
     pub fn entries(&self) -> Entries<'_, T>
         ensures { result ≡ now_in self.now }
     {
-        Entries::new(Version::Now, &self.parts)
+        Entries::new(NowOrNext::Now, &self.parts)
     }
 
     /// The entries next, in order.
     pub fn next_entries(&self) -> Entries<'_, T>
         ensures { result ≡ next_in self.now }
     {
-        Entries::new(Version::Next, &self.parts)
+        Entries::new(NowOrNext::Next, &self.parts)
     }
 }

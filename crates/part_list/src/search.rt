@@ -39,7 +39,7 @@ pub fn first_spot<T: Copy, S: Seek<T>>(
 }
 
 /// The entries from a place on.
-fn from_place<T: Copy>(entries: &[Entry<T>], at: usize) -> &[Entry<T>]
+fn entries_from<T: Copy>(entries: &[Entry<T>], at: usize) -> &[Entry<T>]
     requires { at ≤ length entries.now }
     ensures { result.now ≡ drop at entries.now }
 {
@@ -63,7 +63,7 @@ pub fn first_spot_behind<T: Copy, S: Seek<T>>(
         return None;
     };
     let slot = begin.slot;
-    match first_in(from_place(parts[slot].next(), begin.at), seek) {
+    match first_in(entries_from(parts[slot].next(), begin.at), seek) {
         Some(at) => Some(Spot {
             slot,
             at: begin.at + at,

@@ -10,10 +10,10 @@ ghost use Rattle.part_list.specs.SeenNumbers.{Grows, IsKnown, may_have};
 ghost use Rattle.part_list.specs.declared.entry.Entry.{Entry};
 
 use crate::entry::Entry;
+use crate::now_or_next::NowOrNext;
 use crate::part::Part;
 use crate::put::Put;
 use crate::seek::Seek;
-use crate::version::Version;
 use std::alloc::Global;
 use std::collections::BTreeSet;
 
@@ -144,7 +144,7 @@ impl SeenNumbers {
     {
         self.put_next(part);
         if part.is_edited() {
-            self.put_all(part.shown(Version::Now));
+            self.put_all(part.entries_in(NowOrNext::Now));
         }
     }
 

@@ -91,13 +91,13 @@ pub fn questions_of<W: FactView>(alloc: Global, view: &W, c: Point) -> Result<Qu
     if is_plain(c, &facts) {
         return Ok(query_set(asked));
     }
-    put_more(alloc, view, c, &facts, &mut asked)?;
+    put_derivation_asks(alloc, view, c, &facts, &mut asked)?;
     Ok(query_set(asked))
 }
 
 /// Appends the questions that the derivation of a code point asks beside its own. Those of its Normalisation Form KC
 /// are the first ones of the folding rounds.
-fn put_more<W: FactView>(
+fn put_derivation_asks<W: FactView>(
     alloc: Global,
     view: &W,
     c: Point,

@@ -131,16 +131,16 @@ fn put_folding<W: FactView>(
     let mut kept = folded(alloc, view, folding, form)?;
     put_rows(kept.as_slice(), asked)?;
     drop_ignorable(view, &mut kept);
-    let next = put_again(alloc, view, s, form, kept.as_slice(), asked)?;
+    let next = put_asks_of_form(alloc, view, s, form, kept.as_slice(), asked)?;
     let next = short_round(form, kept.as_slice(), next);
-    let after = changed(next, s, kept.as_slice());
+    let after = changed_list(next, s, kept.as_slice());
     Ok(Round { after, alike })
 }
 
 /// Appends what Normalisation Form KC of a list asks, and answers that form. If the list is the one that the round
 /// began with, all of that is there already, and the form is known.
 #[tactic(auto, using(crate::specs::Rounds::form_again))]
-fn put_again<W: FactView>(
+fn put_asks_of_form<W: FactView>(
     alloc: Global,
     view: &W,
     s: &[Point],
@@ -180,7 +180,7 @@ fn short_round(form: &[Point], kept: &[Point], next: Option<Points>) -> Option<P
 
 /// The list after a round, if it differs from the list before. It is known if it is the list `kept`, whose
 /// Normalisation Form KC it is.
-fn changed(next: Option<Points>, s: &[Point], kept: &[Point]) -> Option<After>
+fn changed_list(next: Option<Points>, s: &[Point], kept: &[Point]) -> Option<After>
     ensures { result ≡ after_at s.now kept.now next }
 {
     match next {

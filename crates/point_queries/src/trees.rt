@@ -5,7 +5,7 @@ ghost use Rattle.std.specs.List.{flat_map};
 ghost use Rattle.query_laws.specs.Questions.{tree, whole_tree, row_queries};
 ghost use Rattle.point_queries.specs.Compat.{has_compat};
 
-use decomposition::{LEVELS, counted};
+use decomposition::{LEVELS, mapping_if_counted};
 use ucd_model::{FactView, Memory, Point, Query};
 
 /// Appends the questions for the facts of the code points that the expansions of these look at.
@@ -62,7 +62,7 @@ fn put_tree<W: FactView>(
         return Ok(());
     }
     asked.push(Query::Row(c))?;
-    let mapping = counted(view, compat, c);
+    let mapping = mapping_if_counted(view, compat, c);
     'members: for member in mapping {
         put_tree(view, compat, levels - 1, *member, asked)?;
     }
@@ -87,7 +87,7 @@ fn has_compat_within<W: FactView>(view: &W, levels: u8, c: Point) -> bool
     if view.kind(c).is_compat() {
         return true;
     }
-    let mapping = counted(view, true, c);
+    let mapping = mapping_if_counted(view, true, c);
     'members: for member in mapping {
         if has_compat_within(view, levels - 1, *member) {
             return true;

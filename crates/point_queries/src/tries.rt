@@ -6,7 +6,7 @@ ghost use Rattle.ucd_facts.specs.Composites.{pair_of};
 ghost use Rattle.query_laws.specs.Questions.{tries};
 ghost use Rattle.point_queries.specs.Tries.{reached_point, tried_by, with_composite, next_starter, tries_from};
 
-use normalisation::{Starter, passes, starter_behind};
+use normalisation::{Starter, is_unblocked, starter_behind};
 use ucd_model::{FactView, Memory, Point, Query};
 
 /// Appends the pairs that are tried while a list is composed, whether they have a composite or not. It looks up at most
@@ -23,14 +23,14 @@ pub fn put_tries<W: FactView>(
 {
     let mut starter = None;
     'points: for y in points {
-        starter = put_tried(view, &starter, *y, asked)?;
+        starter = put_tried_pair(view, &starter, *y, asked)?;
     }
     Ok(())
 }
 
 /// Appends the pair that is tried at a code point behind this last starter, if one is, and answers the last starter
 /// behind the code point.
-fn put_tried<W: FactView>(
+fn put_tried_pair<W: FactView>(
     view: &W,
     starter: &Option<Starter<Point>>,
     y: Point,
@@ -58,7 +58,7 @@ fn reached_point(starter: &Option<Starter<Point>>, class: u8) -> Option<Point>
     ensures { result ≡ reached_point starter.now class }
 {
     match starter {
-        Some(starter) if passes(starter.highest, class) => Some(starter.which),
+        Some(starter) if is_unblocked(starter.highest, class) => Some(starter.which),
         _ => None,
     }
 }

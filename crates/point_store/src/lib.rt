@@ -4,7 +4,7 @@
 mod slot_store;
 mod slots;
 mod store;
-mod used;
+mod unused_slots;
 
 pub use slot_store::SlotStore;
 pub use store::Store;

@@ -7,7 +7,7 @@ ghost use Rattle.point_store.specs.Slots.{AreHeld};
 
 use crate::slots::Slots;
 use crate::store::Store;
-use crate::used::{spare_next, spare_now};
+use crate::unused_slots::{mark_used_next, mark_used_now};
 use range_table::{Stretches, Table};
 use std::alloc::Global;
 use ucd_points::{Copied, Memory, Point, Span};
@@ -159,9 +159,9 @@ impl<T: Stretches<u64>, V: Drop> SlotStore<T, V> {
         }
         if let Ok(mut all) = self.slots.all_unused() {
             let unused = all.as_mut_slice();
-            spare_now(&self.places, unused);
-            spare_next(&self.places, unused);
-            self.slots.let_go(unused);
+            mark_used_now(&self.places, unused);
+            mark_used_next(&self.places, unused);
+            self.slots.drop_unused(unused);
         }
     }
 

@@ -96,7 +96,7 @@ impl<V: Drop> Slots<V> {
         }
     }
 
-    /// Whether few values are held: fewer than twice those that the last call of `let_go` left, and some more.
+    /// Whether few values are held: fewer than twice those that the last call of `drop_unused` left, and some more.
     pub fn are_few(&self) -> bool {
         self.count() < self.few
     }
@@ -111,12 +111,12 @@ impl<V: Drop> Slots<V> {
 
     /// Lets go of the values at unused places, except for the first one, and gives back the room behind the last one
     /// that is left.
-    pub fn let_go(&mut self, unused: &[bool])
+    pub fn drop_unused(&mut self, unused: &[bool])
         ensures { (p : ℕ) → is_unused unused.now p ≡ false
             → held_at self.new p ≡ held_at self.old p }
     {
         empty_unused(&mut self.more, unused);
-        cut_end(&mut self.more);
+        drop_empty_end(&mut self.more);
         list_free(&self.more, &mut self.free);
         self.few = self.count().saturating_mul(2).saturating_add(FEW);
         self.shrink_to_fit();
@@ -179,7 +179,7 @@ fn empty_unused<V: Drop>(more: &mut [Option<V>], unused: &[bool])
 
 /// Drops the places behind the last value.
 #[tactic(auto, using(crate::proofs::SlotSteps::same_cut))]
-fn cut_end<V: Drop>(more: &mut Vec<Option<V>>)
+fn drop_empty_end<V: Drop>(more: &mut Vec<Option<V>>)
     ensures { (i : ℕ) → slice_index_or more.new.items i None
         ≡ slice_index_or more.old.items i None }
 {

@@ -13,7 +13,7 @@ ghost use Rattle.release_rows.specs.Releases.{rows_now};
 use crate::edited::Edited;
 use crate::indexing::{index_in, property_by};
 use crate::loose::without_is;
-use crate::meaning::{binary, other, test_at};
+use crate::meaning::{any_ascii_or_assigned, binary, test_at};
 use crate::places::Places;
 use crate::property::{Property, Test};
 use crate::value_numbers::ValueNumbers;
@@ -62,7 +62,12 @@ impl Aliases {
     /// Only the rows of edited files are read, and those of alias files only if another name is numbered.
     ///
     /// - `Memory`: memory ran out.
-    pub fn again(self, alloc: Global, release: &Release, edited: Edited) -> Result<Aliases, Memory>
+    pub fn renewed(
+        self,
+        alloc: Global,
+        release: &Release,
+        edited: Edited,
+    ) -> Result<Aliases, Memory>
         requires { AreKeptBut self edited (rows_now release.now) }
         ensures aliases { IfOk result (λ aliases. AreAliasesOf aliases (sources_of release.now)) }
         ensures numbers { IfOk result
@@ -122,7 +127,7 @@ impl Aliases {
         }
         match self.binary_as_is(name) {
             Some(test) => Some(test),
-            None => other(name),
+            None => any_ascii_or_assigned(name),
         }
     }
 

@@ -197,7 +197,7 @@ pub(crate) fn values_of(
 /// The values of the rows of a file now, by their numbers, behind a default.
 ///
 /// - `Memory`: memory ran out.
-pub(crate) fn values_behind(
+pub(crate) fn values_behind_default(
     alloc: Global,
     default: &[u8],
     release: &Release,

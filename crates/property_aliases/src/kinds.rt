@@ -6,7 +6,7 @@ ghost use Rattle.property_aliases.specs.Kinds.{kind_names, kind_of, number_at};
 ghost use Rattle.property_aliases.specs.ResolvingLaws.{direct};
 ghost use Rattle.property_aliases.specs.Values.{class_names};
 
-use crate::naming::direct_of;
+use crate::naming::places_of_table;
 use crate::number_map::NumberMap;
 use crate::property::Property;
 use crate::tables::{
@@ -100,7 +100,7 @@ pub(crate) fn kinds_of(
     let mut kind = 0;
     'kinds: while kind < KINDS {
         let names = kind_names(alloc, kind, scripts, breaks)?;
-        kinds.push(direct_of(alloc, names.as_slice())?)?;
+        kinds.push(places_of_table(alloc, names.as_slice())?)?;
         kind += 1;
     }
     Ok(kinds)

@@ -8,7 +8,7 @@ use std::alloc::Global;
 use ucd_facts::Memory;
 
 /// Whether a byte of a name counts: all but white space, `_` and `-`.
-fn is_kept(byte: u8) -> bool
+fn counts_in_name(byte: u8) -> bool
     ensures { result ≡ is_kept byte }
 {
     !matches!(byte, b'_' | b'-' | b' ' | 9..=13)
@@ -30,7 +30,7 @@ pub(crate) fn loose(alloc: Global, name: &[u8]) -> Result<Vec<u8>, Memory>
 {
     let mut key = Vec::new(alloc);
     'bytes: for byte in name {
-        if is_kept(*byte) {
+        if counts_in_name(*byte) {
             key.push(to_lower(*byte))?;
         }
     }
@@ -38,13 +38,13 @@ pub(crate) fn loose(alloc: Global, name: &[u8]) -> Result<Vec<u8>, Memory>
 }
 
 /// The first byte of a name that counts, in lower case, and what stands behind it; `None` if none counts.
-pub(crate) fn first_of(name: &[u8]) -> Option<(u8, &[u8])>
+pub(crate) fn first_loose_byte(name: &[u8]) -> Option<(u8, &[u8])>
     ensures { MatchOption result (loose name.now ≡ [])
         (λ first. loose name.now ≡ first.0 ∷ loose first.1.now) }
 {
     let mut rest = name;
     'bytes: while let [byte, behind @ ..] = rest {
-        if is_kept(*byte) {
+        if counts_in_name(*byte) {
             return Some((to_lower(*byte), behind));
         }
         rest = behind;
@@ -53,12 +53,12 @@ pub(crate) fn first_of(name: &[u8]) -> Option<(u8, &[u8])>
 }
 
 /// Whether the same counts of two names.
-pub(crate) fn is_same(first: &[u8], second: &[u8]) -> bool
+pub(crate) fn is_loosely_same(first: &[u8], second: &[u8]) -> bool
     ensures { result ≡ bytes_eq (loose first.now) (loose second.now) }
 {
     let (mut left, mut right) = (first, second);
-    'bytes: while let Some((byte, behind)) = first_of(left) {
-        match first_of(right) {
+    'bytes: while let Some((byte, behind)) = first_loose_byte(left) {
+        match first_loose_byte(right) {
             Some((other, rest)) if byte == other => {
                 left = behind;
                 right = rest;
@@ -66,7 +66,7 @@ pub(crate) fn is_same(first: &[u8], second: &[u8]) -> bool
             _ => return false,
         }
     }
-    first_of(right).is_none()
+    first_loose_byte(right).is_none()
 }
 
 /// What is behind `is`; `None` if what counts of a name does not begin so.
@@ -75,8 +75,8 @@ pub(crate) fn without_is(name: &[u8]) -> Option<&[u8]>
         (λ rest. (has_is (loose name.now) ≡ true)
         × (loose rest.now ≡ drop 2 (loose name.now))) }
 {
-    let (first, behind) = first_of(name)?;
-    let (second, rest) = first_of(behind)?;
+    let (first, behind) = first_loose_byte(name)?;
+    let (second, rest) = first_loose_byte(behind)?;
     if first == b'i' && second == b's' {
         return Some(rest);
     }

@@ -10,7 +10,7 @@ ghost use Rattle.std.proofs.lemmas.Slice.Eq.{bytes_eq-Decides};
 ghost use Rattle.property_aliases.specs.Loose.{loose};
 ghost use Rattle.property_aliases.specs.LooseNames.{name_bytes};
 
-use crate::loose::{first_of, is_same};
+use crate::loose::{first_loose_byte, is_loosely_same};
 use std::hash::{Hash, Hasher};
 
 /// A name, told by what counts of it: a key of a map, in which it is looked up without a copy.
@@ -40,7 +40,7 @@ impl<'a> PartialEq for LooseName<'a> {
     ghost laws = { Prim.search (comparing, rules) };
 
     fn eq(&self, other: &LooseName<'a>) -> bool {
-        is_same(self.bytes(), other.bytes())
+        is_loosely_same(self.bytes(), other.bytes())
     }
 }
 
@@ -63,7 +63,7 @@ fn hash_loose<H: Hasher>(name: &[u8], state: &mut H)
     ensures { state.new ≡ fold H.write state.old (flat_map fed.u8 (loose name.now)) }
 {
     let mut rest = name;
-    'bytes: while let Some((byte, behind)) = first_of(rest) {
+    'bytes: while let Some((byte, behind)) = first_loose_byte(rest) {
         state.write_u8(byte);
         rest = behind;
     }

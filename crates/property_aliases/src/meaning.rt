@@ -5,7 +5,7 @@ ghost use Rattle.property_aliases.specs.Loose.{loose};
 ghost use Rattle.property_aliases.specs.Values.{binary, groups, other_key, test_at};
 ghost use Rattle.property_aliases.specs.declared.property.Property.TheVariants.{Category as OfCategory, Class as OfClass, Decomposition as OfDecomposition, Quick as OfQuick};
 
-use crate::loose::is_same;
+use crate::loose::is_loosely_same;
 use crate::property::{Group, Property, Test};
 use ucd_facts::{Category, Form, Kind, Quick};
 
@@ -99,14 +99,14 @@ pub(crate) fn binary(property: Property) -> Option<Test>
 }
 
 /// The test that `Any`, `ASCII` or `Assigned` means.
-pub(crate) fn other(name: &[u8]) -> Option<Test>
+pub(crate) fn any_ascii_or_assigned(name: &[u8]) -> Option<Test>
     ensures { result ≡ other_key (loose name.now) }
 {
-    if is_same(name, b"Any") {
+    if is_loosely_same(name, b"Any") {
         Some(Test::Any)
-    } else if is_same(name, b"ASCII") {
+    } else if is_loosely_same(name, b"ASCII") {
         Some(Test::Ascii)
-    } else if is_same(name, b"Assigned") {
+    } else if is_loosely_same(name, b"Assigned") {
         Some(Test::Assigned)
     } else {
         None

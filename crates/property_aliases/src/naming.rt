@@ -13,7 +13,7 @@ use ucd_facts::{Memory, Text, Texts};
 /// The place of each name of a table, the first if two match.
 ///
 /// - `Memory`: memory ran out.
-pub(crate) fn direct_of(alloc: Global, names: &[Text]) -> Result<NumberMap, Memory>
+pub(crate) fn places_of_table(alloc: Global, names: &[Text]) -> Result<NumberMap, Memory>
     ensures { IfOk result (λ map. (key : List ℕ) → number_in map key ≡ direct names.now key) }
 {
     let mut map = NumberMap::new(alloc);
@@ -26,7 +26,7 @@ pub(crate) fn direct_of(alloc: Global, names: &[Text]) -> Result<NumberMap, Memo
 }
 
 /// The lesser of two numbers, each of which may be missing.
-pub(crate) fn less(first: Option<usize>, second: Option<usize>) -> Option<usize>
+pub(crate) fn lesser_number(first: Option<usize>, second: Option<usize>) -> Option<usize>
     ensures { result ≡ least first second }
 {
     match (first, second) {
@@ -42,7 +42,7 @@ fn row_number(direct: &NumberMap, row: &[Text]) -> Option<usize>
 {
     let mut number = None;
     'names: for name in row {
-        number = less(number, direct.find(name.as_slice()));
+        number = lesser_number(number, direct.find(name.as_slice()));
     }
     number
 }
@@ -113,7 +113,7 @@ impl Names {
         ensures { IfOk result (λ found. (key : List ℕ)
             → found_in found.direct found.rows key ≡ number_of names.now rows.now key) }
     {
-        let direct = direct_of(alloc, names)?;
+        let direct = places_of_table(alloc, names)?;
         let rows = rows_of(alloc, &direct, rows)?;
         Ok(Names { direct, rows })
     }
@@ -123,5 +123,5 @@ impl Names {
 pub(crate) fn find_in(direct: &NumberMap, rows: &NumberMap, name: &[u8]) -> Option<usize>
     ensures { result ≡ found_in direct.now rows.now (loose name.now) }
 {
-    less(direct.find(name), rows.find(name))
+    lesser_number(direct.find(name), rows.find(name))
 }

@@ -6,13 +6,13 @@ ghost use Rattle.property_aliases.specs.Numbers.{AreValues, names_in};
 ghost use Rattle.property_aliases.specs.Sources.{listed_names, numbered};
 ghost use Rattle.release_rows.specs.Releases.{rows_now};
 
-use crate::file_values::{FileValues, values_behind, values_of};
+use crate::file_values::{FileValues, values_behind_default, values_of};
 use release_rows::Release;
 use std::alloc::Global;
 use ucd_facts::{Memory, SourceFile};
 
 /// What is left of two lists behind their first names, if both have one and it is the same.
-fn behind_same<'a>(
+fn behind_same_first<'a>(
     first: &'a [Vec<u8>],
     second: &'a [Vec<u8>],
 ) -> Option<(&'a [Vec<u8>], &'a [Vec<u8>])>
@@ -36,7 +36,7 @@ fn are_same(first: &[Vec<u8>], second: &[Vec<u8>]) -> bool
 {
     let mut left = first;
     let mut right = second;
-    'names: while let Some((behind_left, behind_right)) = behind_same(left, right) {
+    'names: while let Some((behind_left, behind_right)) = behind_same_first(left, right) {
         left = behind_left;
         right = behind_right;
     }
@@ -73,7 +73,7 @@ pub(crate) fn renew_values(
 /// they have the names that they had.
 ///
 /// - `Memory`: memory ran out. They stay.
-pub(crate) fn renew_behind(
+pub(crate) fn renew_behind_default(
     alloc: Global,
     default: &[u8],
     release: &Release,
@@ -92,7 +92,7 @@ pub(crate) fn renew_behind(
     if !edited {
         return Ok(true);
     }
-    let values = values_behind(alloc, default, release, file)?;
+    let values = values_behind_default(alloc, default, release, file)?;
     Ok(put_values(kept, values))
 }
 

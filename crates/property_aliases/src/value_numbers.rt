@@ -8,8 +8,8 @@ ghost use Rattle.ucd_facts.specs.Values.{default_script, default_word_break};
 ghost use Rattle.release_rows.specs.Releases.{rows_now};
 
 use crate::edited::Edited;
-use crate::file_values::{FileValues, values_behind, values_of};
-use crate::renewing::{renew_behind, renew_values};
+use crate::file_values::{FileValues, values_behind_default, values_of};
+use crate::renewing::{renew_behind_default, renew_values};
 use release_rows::Release;
 use std::alloc::Global;
 use ucd_facts::{Memory, SourceFile};
@@ -45,8 +45,8 @@ impl ValueNumbers {
         ensures { IfOk result (λ numbers. AreNumbersOf numbers (rows_now release.now)) }
     {
         let listed = values_of(alloc, release, SourceFile::PropList)?;
-        let scripts = values_behind(alloc, default_script(), release, SourceFile::Scripts)?;
-        let breaks = values_behind(
+        let scripts = values_behind_default(alloc, default_script(), release, SourceFile::Scripts)?;
+        let breaks = values_behind_default(
             alloc,
             default_word_break(),
             release,
@@ -81,7 +81,7 @@ impl ValueNumbers {
             edited.listed,
             &mut self.listed,
         )?;
-        let scripts = renew_behind(
+        let scripts = renew_behind_default(
             alloc,
             default_script(),
             release,
@@ -89,7 +89,7 @@ impl ValueNumbers {
             edited.scripts,
             &mut self.scripts,
         )?;
-        let breaks = renew_behind(
+        let breaks = renew_behind_default(
             alloc,
             default_word_break(),
             release,

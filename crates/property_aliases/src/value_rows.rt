@@ -30,7 +30,7 @@ fn first_index(properties: &Names, row: &[Text]) -> Option<usize>
 }
 
 /// The names of a row behind the first.
-fn later(row: &[Text]) -> &[Text]
+fn names_behind_first(row: &[Text]) -> &[Text]
     ensures { result.now ≡ drop 1 row.now }
 {
     match row {
@@ -42,7 +42,7 @@ fn later(row: &[Text]) -> &[Text]
 /// Makes maps, without a name, up to the one with this index.
 ///
 /// - `Memory`: memory ran out.
-fn reach(alloc: Global, maps: &mut Vec<NumberMap>, index: usize) -> Result<(), Memory>
+fn make_maps_up_to(alloc: Global, maps: &mut Vec<NumberMap>, index: usize) -> Result<(), Memory>
     ensures reached { OnOk result (index < length maps.new.items) }
     ensures numbers { OnOk result ((i : ℕ) (key : List ℕ)
         → number_at maps.new.items i key ≡ number_at maps.old.items i key) }
@@ -70,7 +70,7 @@ fn add_at(
         (rows_number (number_at kinds.now (kind_of (property_by i)))
         (if nat_eq index i then row.now ∷ [] else []) key)) }
 {
-    reach(alloc, maps, index)?;
+    make_maps_up_to(alloc, maps, index)?;
     let direct = &kinds[kind_of(property_by(index))];
     add_row(alloc, direct, &mut maps[index], row)
 }
@@ -94,7 +94,7 @@ fn add_value_row(
         (behind (index_in_names properties.now) i row.now) key)) }
 {
     match first_index(properties, row) {
-        Some(index) => add_at(alloc, kinds, maps, index, later(row)),
+        Some(index) => add_at(alloc, kinds, maps, index, names_behind_first(row)),
         None => Ok(()),
     }
 }

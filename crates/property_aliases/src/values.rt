@@ -15,7 +15,7 @@ ghost use Rattle.release_rows.specs.Releases.{rows_now};
 ghost use Rattle.ucd_points.specs.declared.files.SourceFile.TheVariants.{PropertyValueAliases};
 
 use crate::kinds::{kind_of, kinds_of};
-use crate::naming::{Names, less};
+use crate::naming::{Names, lesser_number};
 use crate::number_map::NumberMap;
 use crate::property::Property;
 use crate::value_numbers::ValueNumbers;
@@ -63,7 +63,7 @@ impl ValueNames {
         ensures { result ≡ place_in self.now property (loose name.now) }
     {
         let direct = number_at(self.kinds.as_slice(), kind_of(property), name);
-        less(direct, self.find_in_rows(property, name))
+        lesser_number(direct, self.find_in_rows(property, name))
     }
 
     /// The place to which rows tie a name.

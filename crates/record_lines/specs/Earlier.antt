@@ -10,9 +10,9 @@ use Rattle.record_table.specs.Records.{record_now}
 use Rattle.ucd_points.specs.Limits.{point_count}
 use Rattle.ucd_model.specs.Records.{Record}
 use Rattle.ucd_model.specs.Sameness.{is_in, same_record}
-use Rattle.record_lines.specs.declared.earlier.Earlier.{Earlier}
+use Rattle.record_lines.specs.declared.earlier_records.EarlierRecords.{EarlierRecords}
 
-abbrev pub earlier_record : Earlier → ℕ → Record
+abbrev pub earlier_record : EarlierRecords → ℕ → Record
 earlier_record e c = record_now e.table c
 
 abbrev pub updated : List ℕ → (ℕ → Record) → (ℕ → Record) → ℕ → Record

@@ -45,7 +45,7 @@ fn put_next(
     ensures same { lines.new.lines ≡ lines.old.lines }
 {
     // a file has no more lines than bytes
-    if number >= lines.most() {
+    if number >= lines.most_lines() {
         return Ok(());
     }
     put_line(alloc, file, lines, number + 1, text)

@@ -2,7 +2,7 @@
 #![tactic(auto)]
 
 mod change;
-mod earlier;
+mod earlier_records;
 mod file_lines;
 pub mod laws;
 mod line_finder;
@@ -13,7 +13,7 @@ mod rows;
 mod value;
 
 pub use change::put_changes;
-pub use earlier::Earlier;
+pub use earlier_records::EarlierRecords;
 pub use point_text::PointText;
 pub use record_text::put_record;
 pub use rows::put_rows;

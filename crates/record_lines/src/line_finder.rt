@@ -41,7 +41,7 @@ impl<'a> LineFinder<'a> {
     }
 
     /// A number that the text has no more lines than.
-    pub fn most(&self) -> usize
+    pub fn most_lines(&self) -> usize
         ensures { length self.now.lines ≤ result }
     {
         self.bytes.len()
@@ -63,7 +63,7 @@ impl<'a> LineFinder<'a> {
     }
 
     /// The content of the line behind those that were passed, which it passes; `None` if there is no such line.
-    fn pass(&mut self) -> Option<&'a [u8]>
+    fn next_line(&mut self) -> Option<&'a [u8]>
         ensures found { MatchOption result (slice_get self.old.lines self.old.passed ≡ None)
             (λ content. slice_get self.old.lines self.old.passed ≡ Some content.now) }
         ensures passed { OnSome result (self.new.passed ≡ self.old.passed + 1) }
@@ -84,8 +84,8 @@ impl<'a> LineFinder<'a> {
             self.restart();
         }
         'lines: while self.passed() < place {
-            self.pass()?;
+            self.next_line()?;
         }
-        self.pass()
+        self.next_line()
     }
 }

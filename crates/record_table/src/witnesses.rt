@@ -57,7 +57,7 @@ pub fn slot_of(record: &Record) -> usize {
 fn image_sum(image: &Image) -> usize
     ensures { result < 4194304 }
 {
-    match image.shown() {
+    match image.as_points() {
         None => 0,
         Some([]) => 1,
         Some([first, behind @ ..]) => 2 + first.number() as usize + 2 * behind.len().min(SLOTS),

@@ -97,13 +97,13 @@ fn put_found<S: Store<Option<Queries>>>(
     ensures now { SameValues (asked_at S.now map.new) (asked_at S.now map.old) }
 {
     map.prepare(c, &found.asked)?;
-    put(c, found.value, records, changed)
+    put_if_changed(c, found.value, records, changed)
 }
 
 /// Prepares the record of a code point, and puts this behind others, if the record differs from the one now.
 ///
 /// - `Memory`: memory ran out. The record may be prepared.
-fn put(
+fn put_if_changed(
     c: Point,
     value: Record,
     records: &mut RecordTable,

@@ -38,10 +38,10 @@ use Rattle.release_rows.specs.FileItems.{FileItem, bytes_of, SourceFile, Row}
 use Rattle.release_rows.specs.Loading.{content_row, row_read}
 use Rattle.release_rows.specs.Tags.{content_tag}
 use Rattle.release_rows.specs.declared.brief.Brief.{Brief}
-use Rattle.release_rows.specs.declared.piece.Piece.{Piece}
+use Rattle.release_rows.specs.declared.piece.RowLines.{RowLines}
 use Rattle.release_rows.specs.declared.stored_item.StoredItem.{StoredItem}
 
-abbrev pub piece_of : Piece → Lines
+abbrev pub piece_of : RowLines → Lines
 piece_of p = record { first = item_of p.first; last = option_map item_of p.last }
 
 abbrev pub content_at : List ℕ → StoredItem → List ℕ

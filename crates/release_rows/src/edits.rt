@@ -67,7 +67,10 @@ fn ordinary_gap(
     if !seen_hashes.may_have(group_hash(search.group)) {
         return end_gap(items, search);
     }
-    if let Some(spot) = items.first_behind(leads.passed(search), &search.with(Test::Follows)) {
+    if let Some(spot) = items.first_behind(
+        leads.items_passed(search),
+        &search.with(Test::Follows),
+    ) {
         return match items.before(spot) {
             Some(before) => Gap::Behind(before),
             None => Gap::Front(spot),

@@ -10,7 +10,7 @@ ghost use Rattle.release_rows.specs.declared.operation.Op.TheVariants.{Add, Chan
 
 use crate::edits::{lead_count, put_in};
 use crate::file_text::FileText;
-use crate::finds::{added_gap, changed_spot, search_row, withdrawn_spot};
+use crate::key_search::{added_gap, changed_spot, search_row, withdrawn_spot};
 use crate::noted::{has_hashes, hashes_of};
 use crate::op_spans::{both_spans, entry_spans, row_spans};
 use crate::operation::{Op, OpStop};

@@ -118,7 +118,7 @@ fn is_below(lead: Lead, search: &Search<'_>) -> bool
 }
 
 /// How many items are passed by a lead: none of them has a row of the group that is looked for with a greater key.
-fn passed_by(lead: Lead, search: &Search<'_>) -> usize
+fn items_passed_by(lead: Lead, search: &Search<'_>) -> usize
     ensures { (row : RowValue) (items : List FileItem)
         → IsSoughtRow search.now.file row search.now.text search.now
         → IsLead search.now.file search.now.text items lead
@@ -132,7 +132,7 @@ fn passed_by(lead: Lead, search: &Search<'_>) -> usize
 }
 
 /// How many items are passed by leads that ascend by their keys.
-fn passed(leads: &[Lead], search: &Search<'_>) -> usize
+fn items_passed(leads: &[Lead], search: &Search<'_>) -> usize
     ensures { (row : RowValue) (items : List FileItem)
         → IsSoughtRow search.now.file row search.now.text search.now
         → AreLeads search.now.file search.now.text items leads.now
@@ -142,11 +142,11 @@ fn passed(leads: &[Lead], search: &Search<'_>) -> usize
     if place == 0 {
         return 0;
     }
-    passed_by(leads[place - 1], search)
+    items_passed_by(leads[place - 1], search)
 }
 
 /// The lead, if the row that is looked for is put in behind so many items.
-fn moved(lead: Lead, search: &Search<'_>, count: usize) -> Lead
+fn moved_lead(lead: Lead, search: &Search<'_>, count: usize) -> Lead
     ensures { (row : RowValue) (items : List FileItem) (added : FileItem)
         → IsSoughtRow search.now.file row search.now.text search.now
         → added.row ≡ Some row
@@ -181,7 +181,7 @@ fn move_all(leads: &mut Vec<Lead>, search: &Search<'_>, count: usize)
 {
     let mut at = 0;
     'leads: while at < leads.len() {
-        leads[at] = moved(leads[at], search, count);
+        leads[at] = moved_lead(leads[at], search, count);
         at += 1;
     }
 }
@@ -211,7 +211,7 @@ fn note_row(leads: &mut Vec<Lead>, search: &Search<'_>, count: usize, item: Stor
         → AreLeads search.now.file search.now.text items leads.old.items
         → AreLeads search.now.file search.now.text (put_in items count added) leads.new.items }
 {
-    let seen = passed(leads, search);
+    let seen = items_passed(leads, search);
     move_all(leads, search, count);
     if count.saturating_sub(seen) <= FEW {
         return;
@@ -225,7 +225,7 @@ fn note_row(leads: &mut Vec<Lead>, search: &Search<'_>, count: usize, item: Stor
 }
 
 /// Takes leads out; none if there are none.
-fn taken(alloc: Global, leads: &mut Option<Vec<Lead>>) -> Vec<Lead>
+fn take_leads(alloc: Global, leads: &mut Option<Vec<Lead>>) -> Vec<Lead>
     ensures { (file : FileValue) (text : List ℕ) (items : List FileItem)
         → IfSome leads.old (λ old. AreLeads file text items old.items)
         → AreLeads file text items result.items }
@@ -254,14 +254,14 @@ impl Leads {
     }
 
     /// How many items are passed by leads: none of them has a row of the group that is looked for with a greater key.
-    pub fn passed(&self, search: &Search<'_>) -> usize
+    pub fn items_passed(&self, search: &Search<'_>) -> usize
         ensures { (row : RowValue) (items : List FileItem)
             → IsSoughtRow search.now.file row search.now.text search.now
             → KeepLeads search.now.file search.now.text items self.now
             → NoneFollows search.now.file row (take result items) }
     {
         match &self.list {
-            Some(leads) => passed(leads, search),
+            Some(leads) => items_passed(leads, search),
             None => 0,
         }
     }
@@ -282,7 +282,7 @@ impl Leads {
             self.list = None;
             return;
         }
-        let mut leads = taken(alloc, &mut self.list);
+        let mut leads = take_leads(alloc, &mut self.list);
         note_row(&mut leads, search, count, item);
         self.list = Some(leads);
     }

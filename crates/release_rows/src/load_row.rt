@@ -13,7 +13,8 @@ use crate::loaded_row::LoadedRow;
 use crate::row_key::{has_spans, key_text};
 use crate::sort_key::SortKey;
 use source_rows::{
-    FieldsCache, RowRef, RowStop, read_below, read_row_ref, rows_are_ok, rows_are_read,
+    FieldsCache, RowRef, RowStop, read_point_values_with_cache, read_row_ref, rows_are_ok,
+    rows_are_read,
 };
 use std::alloc::Global;
 use ucd_facts::SourceFile;
@@ -87,7 +88,7 @@ fn load_data_row<'a>(
     ensures { EntersAs SourceFile.UnicodeData result
         (row_or_fault SourceFile.UnicodeData content.now) }
 {
-    let given = read_below(content, above)?;
+    let given = read_point_values_with_cache(content, above)?;
     Ok(LoadedRow {
         place: SortKey {
             names: Vec::new(alloc),

@@ -19,7 +19,7 @@ use crate::extents::Extents;
 use crate::keyed_extent::{KeyedExtent, put_placed};
 use crate::load_stop::LoadStop;
 use crate::loaded_row::LoadedRow;
-use crate::piece::{Piece, content_of, ending_len, stored_item_of};
+use crate::piece::{RowLines, content_of, ending_len, stored_item_of};
 use crate::read_piece::read_piece;
 use crate::row_rule::take_row;
 use crate::stored_item::{StoredItem, content_in};
@@ -158,7 +158,11 @@ impl<'a> Loading<'a> {
     ///
     /// - `Fault { line, rule }`: the piece breaks a rule by itself. The line is counted from 1.
     /// - `Memory`: memory ran out.
-    fn take(&mut self, alloc: Global, piece: Piece<'a>) -> Result<Option<LoadedRow>, LoadStop>
+    fn load_piece(
+        &mut self,
+        alloc: Global,
+        piece: RowLines<'a>,
+    ) -> Result<Option<LoadedRow>, LoadStop>
         requires sound { IsSound self.old }
         requires fits { lines_of (items_above self.old) + piece_lines
             (piece_of piece) + 1 < 2 ^ 32 }
@@ -187,7 +191,7 @@ impl<'a> Loading<'a> {
         &mut self,
         alloc: Global,
         rows: &mut Vec<KeyedExtent>,
-        piece: Piece<'a>,
+        piece: RowLines<'a>,
     ) -> Result<(), LoadStop>
         requires sound { IsSound self.old }
         requires rows { AreGathered self.old.file (rows_in (items_above self.old)) rows.old.items }
@@ -202,7 +206,7 @@ impl<'a> Loading<'a> {
             ≡ with_item (progress_of self.old)
             (file_item self.old.file (piece_of piece.entry))) }
     {
-        let entry = self.take(alloc, piece)?;
+        let entry = self.load_piece(alloc, piece)?;
         Ok(put_placed(rows, entry)?)
     }
 
@@ -215,7 +219,7 @@ impl<'a> Loading<'a> {
         &mut self,
         alloc: Global,
         keys: &mut Extents,
-        piece: Piece<'a>,
+        piece: RowLines<'a>,
     ) -> Result<(), LoadStop>
         requires sound { IsSound self.old }
         requires keys { HoldsRows self.old.file (rows_in (items_above self.old)) keys.old }
@@ -229,7 +233,7 @@ impl<'a> Loading<'a> {
             (piece_of piece.entry) }
     {
         let (file, line, before) = (self.file, self.lines + 1, self.before);
-        let entry = self.take(alloc, piece)?;
+        let entry = self.load_piece(alloc, piece)?;
         match take_row(keys, file, before, entry)? {
             None => Ok(()),
             Some(rule) => Err(LoadStop::Fault { line, rule }),

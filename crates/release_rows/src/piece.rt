@@ -16,7 +16,7 @@ use ucd_lines::{Ending, Item, Items, is_trivia};
 
 /// A line, or a line that opens a range and the one behind it. UAX #44, section 4.2.3.
 #[derive(Clone, Copy)]
-pub struct Piece<'a> {
+pub struct RowLines<'a> {
     /// The line, or the one that opens the range.
     pub first: Item<'a>,
     /// The line behind one that opens a range; `None` for other lines, and at the end of the file.
@@ -34,7 +34,7 @@ fn opens_range(file: SourceFile, content: &[u8]) -> bool
 }
 
 /// Takes the first piece off the lines; `None` if there are no lines. UAX #44, section 4.2.3.
-pub fn next_piece<'a>(file: SourceFile, lines: &mut Items<'a>) -> Option<Piece<'a>>
+pub fn next_piece<'a>(file: SourceFile, lines: &mut Items<'a>) -> Option<RowLines<'a>>
     ensures piece { MatchOption result (pieces file lines.old ≡ [])
         (λ p. pieces file lines.old ≡ piece_of p ∷ pieces file lines.new) }
     ensures bytes { MatchOption result (joined lines.old ≡ [])
@@ -45,9 +45,9 @@ pub fn next_piece<'a>(file: SourceFile, lines: &mut Items<'a>) -> Option<Piece<'
     let first = lines.next()?;
     if opens_range(file, first.content) {
         let last = lines.next();
-        return Some(Piece { first, last });
+        return Some(RowLines { first, last });
     }
-    Some(Piece { first, last: None })
+    Some(RowLines { first, last: None })
 }
 
 /// How many bytes an ending has.
@@ -62,7 +62,7 @@ pub fn ending_len(ending: Ending) -> u32
 }
 
 /// How many bytes stand before the ending.
-fn content_len(piece: Piece<'_>) -> usize
+fn content_len(piece: RowLines<'_>) -> usize
     requires { length (piece_content (piece_of piece)) < 2 ^ 32 }
     ensures { result ≡ length (piece_content (piece_of piece.entry)) }
 {
@@ -76,7 +76,7 @@ fn content_len(piece: Piece<'_>) -> usize
 }
 
 /// The content, which an item says where to find in the text. That of one line is at hand.
-pub fn content_of<'a>(text: &'a [u8], stored: StoredItem, piece: Piece<'a>) -> &'a [u8]
+pub fn content_of<'a>(text: &'a [u8], stored: StoredItem, piece: RowLines<'a>) -> &'a [u8]
     requires { content_at text.now stored ≡ piece_content (piece_of piece) }
     ensures { result.now ≡ piece_content (piece_of piece.entry) }
 {
@@ -87,7 +87,7 @@ pub fn content_of<'a>(text: &'a [u8], stored: StoredItem, piece: Piece<'a>) -> &
 }
 
 /// What ends the last line.
-fn ending_of(piece: Piece<'_>) -> Ending
+fn ending_of(piece: RowLines<'_>) -> Ending
     ensures { ending_of result ≡ piece_ending (piece_of piece.entry) }
 {
     match piece.last {
@@ -97,7 +97,7 @@ fn ending_of(piece: Piece<'_>) -> Ending
 }
 
 /// How many lines there are: 1 or 2.
-fn lines_of(piece: Piece<'_>) -> u8
+fn lines_of(piece: RowLines<'_>) -> u8
     ensures count { result ≡ piece_lines (piece_of piece.entry) }
     ensures some { 1 ≤ result }
     ensures few { result ≤ 2 }
@@ -109,7 +109,7 @@ fn lines_of(piece: Piece<'_>) -> u8
 }
 
 /// Where a piece stands whose first byte has this place. Nothing is kept of its row yet.
-pub fn stored_item_of(start: u32, piece: Piece<'_>) -> StoredItem
+pub fn stored_item_of(start: u32, piece: RowLines<'_>) -> StoredItem
     requires { length (piece_content (piece_of piece)) < 2 ^ 32 }
     ensures start { result.start ≡ start }
     ensures len { result.len ≡ length (piece_content (piece_of piece.entry)) }

@@ -9,14 +9,14 @@ ghost use Rattle.release_rows.specs.StoredItems.{piece_of};
 use crate::load_row::load_row;
 use crate::load_stop::{LoadRule, LoadStop};
 use crate::loaded_row::LoadedRow;
-use crate::piece::Piece;
+use crate::piece::RowLines;
 use source_rows::{FieldsCache, RowFault, RowStop, read_row_ref};
 use std::alloc::Global;
 use ucd_facts::SourceFile;
 use ucd_lines::is_trivia;
 
 /// Whether a fault is that of the second line of a range.
-fn is_faulty_last(file: SourceFile, piece: Piece<'_>, fault: RowFault) -> bool
+fn is_faulty_last(file: SourceFile, piece: RowLines<'_>, fault: RowFault) -> bool
     ensures { result ≡ faulty_last file (piece_of piece.entry) fault }
 {
     if !matches!(fault, RowFault::G04) || piece.last.is_none() {
@@ -26,7 +26,7 @@ fn is_faulty_last(file: SourceFile, piece: Piece<'_>, fault: RowFault) -> bool
 }
 
 /// The fault of a piece whose first line has this number.
-fn stop_at(file: SourceFile, line: u32, piece: Piece<'_>, fault: RowFault) -> LoadStop
+fn stop_at(file: SourceFile, line: u32, piece: RowLines<'_>, fault: RowFault) -> LoadStop
     requires { line + 1 < 2 ^ 32 }
     ensures { StopsAs result (record {
       line = fault_line file line
@@ -54,7 +54,7 @@ pub fn read_piece<'a>(
     alloc: Global,
     file: SourceFile,
     line: u32,
-    piece: Piece<'a>,
+    piece: RowLines<'a>,
     content: &'a [u8],
     above: &mut FieldsCache<'a>,
 ) -> Result<Option<LoadedRow>, LoadStop>

@@ -23,7 +23,7 @@ pub struct StoredItem {
 }
 
 /// What stands behind the first `at` bytes; nothing if there are no more.
-fn behind(text: &[u8], at: usize) -> &[u8]
+fn bytes_behind(text: &[u8], at: usize) -> &[u8]
     ensures { result.now ≡ drop at text.now }
 {
     if at >= text.len() {
@@ -33,7 +33,7 @@ fn behind(text: &[u8], at: usize) -> &[u8]
 }
 
 /// The first `len` bytes; all if there are no more.
-fn front(text: &[u8], len: usize) -> &[u8]
+fn first_bytes(text: &[u8], len: usize) -> &[u8]
     ensures { result.now ≡ take len text.now }
 {
     if len >= text.len() {
@@ -46,5 +46,8 @@ fn front(text: &[u8], len: usize) -> &[u8]
 pub fn content_in(text: &[u8], stored: StoredItem) -> &[u8]
     ensures { result.now ≡ content_at text.now stored }
 {
-    front(behind(text, stored.start as usize), stored.len as usize)
+    first_bytes(
+        bytes_behind(text, stored.start as usize),
+        stored.len as usize,
+    )
 }

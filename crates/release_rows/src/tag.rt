@@ -41,7 +41,7 @@ fn behind_first(text: &[u8]) -> &[u8]
 }
 
 /// A number for the first five bytes of a text. A text that comes behind another one has no lesser number.
-pub fn number(text: &[u8]) -> u32
+pub fn order_number(text: &[u8]) -> u32
     ensures { result ≡ number text.now }
 {
     let second = behind_first(text);
@@ -56,7 +56,7 @@ pub fn number(text: &[u8]) -> u32
 }
 
 /// The last five bytes of a text; all if there are no more.
-pub fn end_of(text: &[u8]) -> &[u8]
+pub fn last_five_bytes(text: &[u8]) -> &[u8]
     ensures { result.now ≡ end_of text.now }
 {
     if text.len() <= 5 {
@@ -106,11 +106,11 @@ pub fn content_tag(file: SourceFile, content: &[u8]) -> u32
 {
     match file {
         SourceFile::PropList | SourceFile::Scripts | SourceFile::WordBreakProperty => {
-            number(end_of(content_group(file, content)))
+            order_number(last_five_bytes(content_group(file, content)))
         }
-        SourceFile::SpecialCasing => number(field_at(fields(file, content), 4)),
-        SourceFile::PropertyAliases => number(field_at(fields(file, content), 0)),
-        SourceFile::PropertyValueAliases => number(field_at(fields(file, content), 1)),
+        SourceFile::SpecialCasing => order_number(field_at(fields(file, content), 4)),
+        SourceFile::PropertyAliases => order_number(field_at(fields(file, content), 0)),
+        SourceFile::PropertyValueAliases => order_number(field_at(fields(file, content), 1)),
         _ => 0,
     }
 }
@@ -120,9 +120,9 @@ pub fn key_tag(file: SourceFile, names: &[Text]) -> u32
     ensures { result ≡ key_tag file names.now }
 {
     match file {
-        SourceFile::PropList => number(end_of(first_text(names))),
-        SourceFile::SpecialCasing | SourceFile::PropertyAliases => number(first_text(names)),
-        SourceFile::PropertyValueAliases => number(second_text(names)),
+        SourceFile::PropList => order_number(last_five_bytes(first_text(names))),
+        SourceFile::SpecialCasing | SourceFile::PropertyAliases => order_number(first_text(names)),
+        SourceFile::PropertyValueAliases => order_number(second_text(names)),
         _ => 0,
     }
 }

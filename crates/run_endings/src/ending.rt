@@ -6,8 +6,8 @@ ghost use Rattle.run_endings.specs.Outcome.{Finished, StoppedWith, Told, status_
 ghost use Rattle.run_endings.specs.Planning.{OnlyRead};
 ghost use Rattle.run_endings.specs.Promises.{shelf_seen, sink_seen};
 
+use crate::failure_lines::OUT_OF_MEMORY;
 use crate::plan::Plan;
-use crate::printed::OUT_OF_MEMORY;
 use crate::status::Status;
 use crate::stop::Stop;
 use crate::writing::write_all;
@@ -41,43 +41,43 @@ pub fn end_run<S: Shelf, K: Sink>(
 {
     match planned {
         None => {
-            tell(out, usage);
+            print_line(out, usage);
             Status::BadWords
         }
-        Some(Err(stop)) => tell_stop(stop, out),
-        Some(Ok(plan)) => finish(plan, shelf, out),
+        Some(Err(stop)) => print_stop(stop, out),
+        Some(Ok(plan)) => write_and_summarise(plan, shelf, out),
     }
 }
 
 /// Tells a line; if that fails, the status stays what it is.
-fn tell<K: Sink>(out: &mut K, line: &[u8])
+fn print_line<K: Sink>(out: &mut K, line: &[u8])
     ensures { Told line.now (sink_seen K.Sink out.old out.new) }
 {
     let _ = out.put(line);
 }
 
 /// Tells the line of a run that stopped before it wrote.
-fn tell_stop<K: Sink>(stop: Stop, out: &mut K) -> Status
+fn print_stop<K: Sink>(stop: Stop, out: &mut K) -> Status
     ensures { StoppedWith stop (sink_seen K.Sink out.old out.new) result }
 {
     match stop {
         Stop::Refused(line) => {
-            tell(out, line.as_slice());
+            print_line(out, line.as_slice());
             Status::LoadRefused
         }
         Stop::ReadFailed(line) => {
-            tell(out, line.as_slice());
+            print_line(out, line.as_slice());
             Status::ReadFault
         }
         Stop::Memory => {
-            tell(out, OUT_OF_MEMORY);
+            print_line(out, OUT_OF_MEMORY);
             Status::Memory
         }
     }
 }
 
 /// Writes all files, and tells the summary.
-fn finish<S: Shelf, K: Sink>(plan: Plan, shelf: &mut S, out: &mut K) -> Status
+fn write_and_summarise<S: Shelf, K: Sink>(plan: Plan, shelf: &mut S, out: &mut K) -> Status
     requires { length plan.outputs.items ≤ S.spare shelf.old }
     ensures last_failed_stays { IsTrue S.tells_failed
         → S.last_failed shelf.new ≡ S.last_failed shelf.old }
@@ -90,7 +90,7 @@ fn finish<S: Shelf, K: Sink>(plan: Plan, shelf: &mut S, out: &mut K) -> Status
         done,
     } = plan;
     if let Err(line) = write_all(shelf, outputs) {
-        tell(out, line.as_slice());
+        print_line(out, line.as_slice());
         return Status::WriteFault;
     }
     match out.put(summary.as_slice()) {

@@ -6,7 +6,7 @@ ghost use Rattle.run_endings.specs.Printed.{read_failed};
 ghost use Rattle.run_endings.specs.Reading.{IsRead, text_at};
 ghost use Rattle.run_endings.specs.Promises.{shelf_seen};
 
-use crate::printed::read_failed;
+use crate::failure_lines::read_failed_line;
 use crate::reading::{ReadingStop, read_all};
 use crate::stop::Stop;
 use shelf_io::Shelf;
@@ -18,7 +18,7 @@ fn unread_line(alloc: Global, paths: &[Text], at: usize) -> Result<Text, Memory>
     requires { at < length paths.now }
     ensures { IfOk result (λ line. line ≡ read_failed (text_at paths.now at)) }
 {
-    read_failed(alloc, paths[at].as_slice())
+    read_failed_line(alloc, paths[at].as_slice())
 }
 
 /// What a shelf holds at each of the paths, in order: the bytes, up to one more than a file may have; `None` if the
@@ -26,7 +26,7 @@ fn unread_line(alloc: Global, paths: &[Text], at: usize) -> Result<Text, Memory>
 ///
 /// - `ReadFailed(line)`: a file could not be read; the line names it.
 /// - `Memory`: memory ran out.
-pub fn gather<S: Shelf>(
+pub fn read_inputs<S: Shelf>(
     alloc: Global,
     shelf: &mut S,
     paths: &[Text],

@@ -2,21 +2,21 @@
 #![tactic(auto)]
 
 mod ending;
+mod failure_lines;
 mod gathering;
 mod output;
 mod path;
 mod plan;
-mod printed;
 mod reading;
 mod status;
 mod stop;
 mod writing;
 
 pub use ending::{end_run, make_room};
-pub use gathering::gather;
+pub use failure_lines::{OUT_OF_MEMORY, read_failed_line, write_failed_line};
+pub use gathering::read_inputs;
 pub use output::{Output, put_text};
 pub use path::path_in;
 pub use plan::Plan;
-pub use printed::{OUT_OF_MEMORY, read_failed, write_failed};
 pub use status::Status;
 pub use stop::Stop;

@@ -6,8 +6,8 @@ ghost use Rattle.run_endings.specs.Planning.{Puts};
 ghost use Rattle.run_endings.specs.Printed.{write_failed};
 ghost use Rattle.run_endings.specs.Writing.{file_of};
 
+use crate::failure_lines::write_failed_line;
 use crate::path::path_in;
-use crate::printed::write_failed;
 use std::alloc::Global;
 use ucd_points::{Memory, Text};
 
@@ -31,7 +31,7 @@ impl Output {
             (λ output. file_of output ≡ record { path = path; bytes = bytes }) }
         ensures line { IfOk result (λ output. output.fault_line ≡ write_failed output.path) }
     {
-        let fault_line = write_failed(alloc, path.as_slice())?;
+        let fault_line = write_failed_line(alloc, path.as_slice())?;
         Ok(Output {
             path,
             bytes,

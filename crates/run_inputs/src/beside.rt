@@ -71,8 +71,8 @@ pub fn open_beside<L: Ledger>(
     ensures uncounted { IsTrue same → steps.new ≡ steps.old }
 {
     if same {
-        other.is_still();
-        let_go(held, first);
+        other.has_nothing_prepared();
+        drop_sources(held, first);
         let copy = other.copied(alloc)?;
         return Ok(copy);
     }
@@ -80,7 +80,7 @@ pub fn open_beside<L: Ledger>(
 }
 
 /// Drops what is held of the source files of a folder, the first of which is held at this place.
-fn let_go(held: &mut Vec<Option<Text>>, first: usize)
+fn drop_sources(held: &mut Vec<Option<Text>>, first: usize)
     requires { first + 9 < 2 ^ 64 }
     ensures { StayOutside first held.old.items held.new.items }
 {

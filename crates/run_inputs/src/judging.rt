@@ -24,7 +24,11 @@ use ucd_model::{Broken, SOURCE_FILES, SourceFile, Steps, Text};
 ///
 /// - `Refused(refusal)`: a file is absent, too long, or breaks a rule; the first such file is refused.
 /// - `Memory`: memory ran out.
-fn judge(alloc: Global, held: &mut Vec<Option<Text>>, first: usize) -> Result<Release, FolderStop>
+fn load_sources(
+    alloc: Global,
+    held: &mut Vec<Option<Text>>,
+    first: usize,
+) -> Result<Release, FolderStop>
     requires { first + 9 < 2 ^ 64 }
     ensures files { JudgedAs (λ release. release.current) result
         (files_verdict (source_held held.old.items first)) }
@@ -94,7 +98,7 @@ pub fn judge_folder<L: Ledger>(
     ensures others { StayOutside first held.old.items held.new.items }
     ensures steps { steps.new ≤ steps.old + point_count }
 {
-    let release = judge(alloc, held, first)?;
+    let release = load_sources(alloc, held, first)?;
     match Bench::open(alloc, release, steps) {
         Ok(bench) => Ok(bench),
         Err(stop) => Err(opening_stop(stop)),

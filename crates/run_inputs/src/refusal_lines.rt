@@ -14,7 +14,7 @@ use ucd_model::{Bad, Broken, Memory, Text};
 /// The line that refuses a file: its path, the number of the line, 0 for the file as a whole, and the rule's code.
 ///
 /// - `Memory`: memory ran out.
-pub fn refused(alloc: Global, path: &[u8], line: usize, rule: &[u8]) -> Result<Text, Memory>
+pub fn refusal_line(alloc: Global, path: &[u8], line: usize, rule: &[u8]) -> Result<Text, Memory>
     ensures { IfOk result (λ text. text ≡ refused path.now line rule.now) }
 {
     let mut text = Text::new(alloc);
@@ -38,7 +38,7 @@ fn put_rule_code(text: &mut Text, rule: &[u8]) -> Result<(), Memory>
 /// The line that refuses a release: its folder, the code point that breaks a rule, and the rule's code.
 ///
 /// - `Memory`: memory ran out.
-pub fn refused_point(alloc: Global, folder: &[u8], broken: Broken) -> Result<Text, Memory>
+pub fn point_refusal_line(alloc: Global, folder: &[u8], broken: Broken) -> Result<Text, Memory>
     ensures { IfOk result (λ text. text ≡ refused_point folder.now broken) }
 {
     let mut text = Text::new(alloc);

@@ -6,7 +6,9 @@ ghost use Rattle.run_inputs.specs.RefusalLines.{refused};
 ghost use Rattle.run_inputs.specs.Refusals.{folder_line, script_line, script_rule_code};
 
 use crate::refusal::{FolderRefusal, ScriptRefusal};
-use crate::refusal_lines::{file_rule_code, load_rule_code, refused, refused_point, row_rule_code};
+use crate::refusal_lines::{
+    file_rule_code, load_rule_code, point_refusal_line, refusal_line, row_rule_code,
+};
 use run_endings::path_in;
 use script_lines::ScriptRule;
 use std::alloc::Global;
@@ -19,16 +21,16 @@ pub fn folder_line(alloc: Global, folder: &[u8], refusal: FolderRefusal) -> Resu
     ensures { IfOk result (λ line. line ≡ folder_line folder.now refusal) }
 {
     match refusal {
-        FolderRefusal::NoFile(file) => refused_file(alloc, folder, file, 0, b"G01"),
+        FolderRefusal::NoFile(file) => file_refusal_line(alloc, folder, file, 0, b"G01"),
         FolderRefusal::FileLine { file, line, rule } => {
-            refused_file(alloc, folder, file, line as usize, load_rule_code(rule))
+            file_refusal_line(alloc, folder, file, line as usize, load_rule_code(rule))
         }
-        FolderRefusal::Point(broken) => refused_point(alloc, folder, broken),
+        FolderRefusal::Point(broken) => point_refusal_line(alloc, folder, broken),
     }
 }
 
 /// The line that refuses a source file.
-fn refused_file(
+fn file_refusal_line(
     alloc: Global,
     folder: &[u8],
     file: SourceFile,
@@ -38,7 +40,7 @@ fn refused_file(
     ensures { IfOk result (λ text. text ≡ refused (source_in folder.now file) line rule.now) }
 {
     let path = path_in(alloc, folder, file.path())?;
-    refused(alloc, path.as_slice(), line, rule)
+    refusal_line(alloc, path.as_slice(), line, rule)
 }
 
 /// The line of a refusal of the script at this path.
@@ -48,10 +50,10 @@ pub fn script_line(alloc: Global, path: &[u8], refusal: ScriptRefusal) -> Result
     ensures { IfOk result (λ line. line ≡ script_line path.now refusal) }
 {
     match refusal {
-        ScriptRefusal::Whole(rule) => refused(alloc, path, 0, file_rule_code(rule)),
+        ScriptRefusal::Whole(rule) => refusal_line(alloc, path, 0, file_rule_code(rule)),
         ScriptRefusal::Line { line, rule } => {
             let code = script_rule_code(alloc, rule)?;
-            refused(alloc, path, line as usize, code.as_slice())
+            refusal_line(alloc, path, line as usize, code.as_slice())
         }
     }
 }

@@ -65,7 +65,7 @@ fn withdraw_line(text: &[u8]) -> Line<'_>
 }
 
 /// What stands behind a word with which a text begins; `None` if it does not.
-fn behind<'a>(word: &[u8], content: &'a [u8]) -> Option<&'a [u8]>
+fn behind_word<'a>(word: &[u8], content: &'a [u8]) -> Option<&'a [u8]>
     ensures { MatchOption result (behind word.now content.now ≡ None)
         (λ text. behind word.now content.now ≡ Some text.now) }
 {
@@ -76,13 +76,13 @@ fn behind<'a>(word: &[u8], content: &'a [u8]) -> Option<&'a [u8]>
 fn order_line(content: &[u8]) -> Line<'_>
     ensures { said_by result ≡ orders content.now }
 {
-    if let Some(text) = behind(b"add ", content) {
+    if let Some(text) = behind_word(b"add ", content) {
         return row_line(Put::Add, text);
     }
-    if let Some(text) = behind(b"change ", content) {
+    if let Some(text) = behind_word(b"change ", content) {
         return row_line(Put::Change, text);
     }
-    match behind(b"withdraw ", content) {
+    match behind_word(b"withdraw ", content) {
         Some(text) => withdraw_line(text),
         None => Line::Other,
     }
@@ -92,7 +92,7 @@ fn order_line(content: &[u8]) -> Line<'_>
 fn word_line(content: &[u8]) -> Line<'_>
     ensures { said_by result ≡ ordered content.now }
 {
-    match behind(b"set ", content) {
+    match behind_word(b"set ", content) {
         Some(text) => Line::Set(text),
         None => order_line(content),
     }
@@ -119,5 +119,5 @@ pub fn last_text(content: &[u8]) -> Option<&[u8]>
     ensures { MatchOption result (last_text content.now ≡ None)
         (λ text. last_text content.now ≡ Some text.now) }
 {
-    behind(b"last ", content)
+    behind_word(b"last ", content)
 }

@@ -25,7 +25,12 @@ fn piece_lines(piece: Piece<'_>) -> u32
 }
 
 /// Puts what a piece says into the script. The piece's line has this number.
-fn take(alloc: Global, script: &mut Script, line: u32, piece: Piece<'_>) -> Result<(), ScriptStop>
+fn take_piece(
+    alloc: Global,
+    script: &mut Script,
+    line: u32,
+    piece: Piece<'_>,
+) -> Result<(), ScriptStop>
     requires { line + 1 < 2 ^ 32 }
     ensures { StepsAs result script.new (step line script.old (piece_of piece.entry)) }
 {
@@ -54,7 +59,7 @@ fn take(alloc: Global, script: &mut Script, line: u32, piece: Piece<'_>) -> Resu
 }
 
 /// The commands of a script whose lines are all read.
-fn closed(script: Script) -> Result<Commands, ScriptStop>
+fn closed_script(script: Script) -> Result<Commands, ScriptStop>
     ensures { CommandsAs result (closed_by script.commands script.group) }
 {
     let Script { commands, group } = script;
@@ -96,8 +101,8 @@ pub fn commands_from(alloc: Global, first_line: u32, bytes: &[u8]) -> Result<Com
     let mut script = Script::new(alloc);
     let mut line = first_line;
     'pieces: while let Some(piece) = next_piece(&mut lines) {
-        take(alloc, &mut script, line, piece)?;
+        take_piece(alloc, &mut script, line, piece)?;
         line += piece_lines(piece);
     }
-    closed(script)
+    closed_script(script)
 }

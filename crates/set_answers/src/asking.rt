@@ -59,7 +59,7 @@ fn index_of<'b, B: Records>(
 }
 
 /// Why a text is refused that is no set.
-fn unread(stop: SetStop) -> AskStop
+fn stop_of_parsing(stop: SetStop) -> AskStop
     ensures { IsUnread result stop }
 {
     match stop {
@@ -72,7 +72,7 @@ fn unread(stop: SetStop) -> AskStop
 }
 
 /// Why a set is refused in which a name means nothing.
-fn unnamed(stop: EvalStop) -> AskStop
+fn stop_of_names(stop: EvalStop) -> AskStop
     ensures { IsUnnamed result stop }
 {
     match stop {
@@ -116,7 +116,7 @@ impl<'b, B: Records> Asking<'b, B> {
     {
         match parse(alloc, text) {
             Ok(tree) => self.members(alloc, &tree),
-            Err(stop) => Err(unread(stop)),
+            Err(stop) => Err(stop_of_parsing(stop)),
         }
     }
 
@@ -129,7 +129,7 @@ impl<'b, B: Records> Asking<'b, B> {
     {
         match eval_over(alloc, &self.index, &self.names.aliases, tree) {
             Ok(spans) => Ok(spans),
-            Err(stop) => Err(unnamed(stop)),
+            Err(stop) => Err(stop_of_names(stop)),
         }
     }
 }

@@ -32,7 +32,7 @@ pub(crate) enum Part {
 }
 
 /// Whether a part is told by the rows of this file.
-fn tells(part: Part, file: SourceFile) -> bool
+fn is_told_by(part: Part, file: SourceFile) -> bool
     ensures { result ≡ tells part file }
 {
     match part {
@@ -49,10 +49,10 @@ fn tells(part: Part, file: SourceFile) -> bool
 }
 
 /// Whether an operation of a group is on a file whose rows tell this part.
-fn edits(part: Part, group: &[Op]) -> bool
+fn is_edited_by(part: Part, group: &[Op]) -> bool
     ensures { result ≡ edits part group.now }
 {
-    group.iter().any(|op| tells(part, op.file()))
+    group.iter().any(|op| is_told_by(part, op.file()))
 }
 
 /// No file.
@@ -78,7 +78,7 @@ fn names_by(
     ensures { IfOk result (λ names. AreRowNames names release.now.current) }
 {
     match kept {
-        Some(names) => names.again(alloc, release, edited),
+        Some(names) => names.renewed(alloc, release, edited),
         None => RowNames::of(alloc, release),
     }
 }
@@ -110,10 +110,10 @@ impl KeptNames {
     {
         let before = self.edited;
         self.edited = Edited {
-            listed: before.listed || edits(Part::Listed, group),
-            scripts: before.scripts || edits(Part::Scripts, group),
-            breaks: before.breaks || edits(Part::Breaks, group),
-            aliases: before.aliases || edits(Part::Aliases, group),
+            listed: before.listed || is_edited_by(Part::Listed, group),
+            scripts: before.scripts || is_edited_by(Part::Scripts, group),
+            breaks: before.breaks || is_edited_by(Part::Breaks, group),
+            aliases: before.aliases || is_edited_by(Part::Aliases, group),
         };
     }
 

@@ -30,13 +30,13 @@ pub struct KeptPieces {
 /// Puts code points into a set of their numbers.
 ///
 /// - `Memory`: memory ran out. Some may be put.
-fn put_all(numbers: &mut KeySet, points: &[Point]) -> Result<(), Memory>
+fn put_points(numbers: &mut KeySet, points: &[Point]) -> Result<(), Memory>
     ensures grows { (c : ℕ) → has numbers.old c ≡ true → has numbers.new c ≡ true }
     ensures put { OnOk result ((c : ℕ) → is_in points.now c ≡ true → has numbers.new c ≡ true) }
 {
     let mut left = points;
     'points: while let Some((point, behind)) = left.split_first() {
-        put(numbers, *point)?;
+        put_point(numbers, *point)?;
         left = behind;
     }
     Ok(())
@@ -45,7 +45,7 @@ fn put_all(numbers: &mut KeySet, points: &[Point]) -> Result<(), Memory>
 /// Puts a code point into a set of numbers.
 ///
 /// - `Memory`: memory ran out.
-fn put(numbers: &mut KeySet, point: Point) -> Result<(), Memory>
+fn put_point(numbers: &mut KeySet, point: Point) -> Result<(), Memory>
     ensures grows { (c : ℕ) → has numbers.old c ≡ true → has numbers.new c ≡ true }
     ensures put { OnOk result (has numbers.new point ≡ true) }
 {
@@ -76,7 +76,7 @@ impl KeptPieces {
             return;
         }
         self.noted = self.noted.saturating_add(changed.len());
-        if self.noted > MOST || put_all(&mut self.changed, changed).is_err() {
+        if self.noted > MOST || put_points(&mut self.changed, changed).is_err() {
             *self = KeptPieces::nothing(alloc);
         }
     }
@@ -94,7 +94,7 @@ impl KeptPieces {
     {
         match self.pieces.take() {
             Some(pieces) => {
-                let pieces = pieces.again(alloc, bench, &self.changed)?;
+                let pieces = pieces.renewed(alloc, bench, &self.changed)?;
                 self.put(alloc, pieces);
                 Ok(true)
             }

@@ -51,7 +51,7 @@ impl RowNames {
     /// other files tell stays.
     ///
     /// - `Memory`: memory ran out.
-    pub(crate) fn again(
+    pub(crate) fn renewed(
         self,
         alloc: Global,
         release: &Release,
@@ -61,7 +61,7 @@ impl RowNames {
         ensures { IfOk result (λ names. AreRowNames names release.now.current) }
     {
         let RowNames { aliases, sets } = self;
-        let aliases = aliases.again(alloc, release, edited)?;
+        let aliases = aliases.renewed(alloc, release, edited)?;
         RowNames::with_sets(alloc, release, edited, aliases, sets)
     }
 
@@ -81,7 +81,7 @@ impl RowNames {
         requires sets { AreSetsBut sets edited (rows_now release.now) }
         ensures { IfOk result (λ names. AreRowNames names release.now.current) }
     {
-        match sets.again(alloc, release, aliases.numbers(), edited) {
+        match sets.renewed(alloc, release, aliases.numbers(), edited) {
             Ok(sets) => Ok(RowNames { aliases, sets }),
             Err(stop) => Err(stop),
         }

@@ -9,7 +9,7 @@ use std::str::from_utf8;
 pub const LONGEST: usize = 4095;
 
 /// What the name beside a path has behind the path.
-fn ending() -> &'static [u8]
+fn beside_ending() -> &'static [u8]
     ensures bytes { result.now ≡ codes ".ucdshop-new" }
     ensures text { IsUtf8 result.now }
 {
@@ -20,7 +20,7 @@ fn ending() -> &'static [u8]
 pub fn is_beside(path: &[u8]) -> bool
     ensures { result ≡ is_beside path.now }
 {
-    path.ends_with(ending())
+    path.ends_with(beside_ending())
 }
 
 /// Puts the name beside a path into a buffer of its length.
@@ -30,7 +30,7 @@ fn put_beside(path: &[u8], name: &mut [u8])
 {
     let (front, back) = name.split_at_mut(path.len());
     front.copy_from_slice(path);
-    back.copy_from_slice(ending());
+    back.copy_from_slice(beside_ending());
 }
 
 /// The name beside a path, in this buffer, or `None` if it does not fit.
@@ -39,7 +39,7 @@ pub fn beside_in<'a>(path: &[u8], buffer: &'a mut [u8]) -> Option<&'a str>
     ensures name { IfSome result (λ name. name.now ≡ beside path.now) }
     ensures fits { length (beside path.now) ≤ length buffer.old → IsSome result }
 {
-    let end = path.len() + ending().len();
+    let end = path.len() + beside_ending().len();
     if end > buffer.len() {
         return None;
     }

@@ -65,7 +65,7 @@ impl CallPlan {
     /// Makes the nth call fail as well, counted from 1.
     ///
     /// - `Memory`: memory ran out. Nothing changes.
-    pub fn plan(&mut self, nth: u32) -> Result<(), Memory>
+    pub fn fail_at(&mut self, nth: u32) -> Result<(), Memory>
         ensures ok { OnOk result (self.new ≡ failing_too nth self.old) }
         ensures err { OnErr result (self.new ≡ self.old) }
     {

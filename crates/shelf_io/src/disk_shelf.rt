@@ -272,7 +272,7 @@ fn write_in_place<S: System>(system: &mut S, path: &str, bytes: &[u8]) -> Result
 }
 
 /// A count of faults after a call that failed, or did not.
-fn counted(before: u64, failed: bool) -> u64
+fn counted_if_failed(before: u64, failed: bool) -> u64
     ensures value { result ≡ faults_after failed before }
     ensures never_falls { before ≤ result }
 {
@@ -356,7 +356,7 @@ impl<S: System> Shelf for DiskShelf<S> {
         ensures write_faults_never_fall { self.old.write_faults ≤ self.new.write_faults }
     {
         let answer = write_file(&mut self.system, path.as_slice(), bytes.as_slice());
-        self.write_faults = counted(self.write_faults, answer.is_err());
+        self.write_faults = counted_if_failed(self.write_faults, answer.is_err());
         answer
     }
 }

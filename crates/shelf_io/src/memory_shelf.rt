@@ -74,7 +74,7 @@ impl MemoryShelf {
             (self.new ≡ record self.old { reads = failing_too nth self.old.reads }) }
         ensures err { OnErr result (self.new ≡ self.old) }
     {
-        self.reads.plan(nth)
+        self.reads.fail_at(nth)
     }
 
     /// Makes the nth write fail, counted from 1 and from the making of the shelf. A number joins those that were given
@@ -86,7 +86,7 @@ impl MemoryShelf {
             (self.new ≡ record self.old { writes = failing_too nth self.old.writes }) }
         ensures err { OnErr result (self.new ≡ self.old) }
     {
-        self.writes.plan(nth)
+        self.writes.fail_at(nth)
     }
 }
 

@@ -15,7 +15,7 @@ enum Standing {
 }
 
 /// What stands at a name, itself and not what it links to. A file has to be one that may be written to.
-fn what_stands<R: Files>(files: &R, path: &str) -> io::Result<Standing> {
+fn standing_at<R: Files>(files: &R, path: &str) -> io::Result<Standing> {
     let found = match fs::symlink_metadata(files, path) {
         Ok(found) => found,
         Err(error) if error.kind() == ErrorKind::NotFound => return Ok(Standing::Nothing),
@@ -53,7 +53,7 @@ fn create_like<R: Files>(files: &R, path: &str, other: &Metadata) -> io::Result<
 
 /// Creates an empty file beside a name, in place of what an earlier run left there.
 fn create_beside<R: Files>(files: &R, path: &str, beside: &str) -> io::Result<Option<R::File>> {
-    let found = what_stands(files, path)?;
+    let found = standing_at(files, path)?;
     if let Standing::Other = found {
         return Ok(None);
     }

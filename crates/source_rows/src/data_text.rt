@@ -32,7 +32,7 @@ pub fn data_row(alloc: Global, text: DataText<'_>) -> Result<DataRow, Memory>
     ensures { IfOk result (λ row. row ≡ text_row text.entry) }
 {
     let name = Text::of(alloc, text.name)?;
-    let kept = kept_of(alloc, text.line)?;
+    let kept = other_fields_of(alloc, text.line)?;
     let values = text.values;
     Ok(DataRow {
         span: text.span,
@@ -50,7 +50,7 @@ pub fn data_row(alloc: Global, text: DataText<'_>) -> Result<DataRow, Memory>
 }
 
 /// Fields 4 and 6 to 11, as they stand.
-fn kept_of(alloc: Global, line: DataFields<'_>) -> Result<OtherFields, Memory>
+fn other_fields_of(alloc: Global, line: DataFields<'_>) -> Result<OtherFields, Memory>
     ensures { IfOk result (λ kept. kept ≡ kept_of (fields_in line.entry)) }
 {
     let mut kept = OtherFields {
@@ -62,12 +62,12 @@ fn kept_of(alloc: Global, line: DataFields<'_>) -> Result<OtherFields, Memory>
         f10: Text::new(alloc),
         f11: Text::new(alloc),
     };
-    put_kept(line, &mut kept)?;
+    put_other_fields(line, &mut kept)?;
     Ok(kept)
 }
 
 /// Puts fields 4 and 6 to 11 behind what is kept of each.
-fn put_kept(line: DataFields<'_>, kept: &mut OtherFields) -> Result<(), Memory>
+fn put_other_fields(line: DataFields<'_>, kept: &mut OtherFields) -> Result<(), Memory>
     ensures { OnOk result (kept.new ≡ with_kept kept.old (kept_of (fields_in line.entry))) }
 {
     kept.f4.append(line.f4)?;

@@ -71,7 +71,7 @@ fn class_of(field: &[u8]) -> Option<u8>
 }
 
 /// A simple case mapping, which may be empty. `None` for all other bytes.
-fn case_of(field: &[u8]) -> Option<Option<Point>>
+fn simple_case_of(field: &[u8]) -> Option<Option<Point>>
     ensures { result ≡ case_of field.now }
 {
     match field {
@@ -114,13 +114,13 @@ pub fn read_used<'a>(line: &UsedFields<'a>) -> Result<Values<'a>, RowFault>
         return Err(RowFault::G06);
     };
     let decomposition = read_decomposition(line.f5)?;
-    let Some(upper) = case_of(line.f12) else {
+    let Some(upper) = simple_case_of(line.f12) else {
         return Err(RowFault::G07);
     };
-    let Some(lower) = case_of(line.f13) else {
+    let Some(lower) = simple_case_of(line.f13) else {
         return Err(RowFault::G07);
     };
-    let Some(title) = case_of(line.f14) else {
+    let Some(title) = simple_case_of(line.f14) else {
         return Err(RowFault::G07);
     };
     Ok(Values {

@@ -44,7 +44,7 @@ pub fn first_field(text: &[u8]) -> (&[u8], &[u8])
 
 /// What stands before the first `;`, and what stands behind it. If there is none, the whole text and nothing. It goes
 /// byte by byte, so it is quick if the `;` is near.
-pub fn near_cut(text: &[u8]) -> (&[u8], &[u8])
+pub fn cut_at_near_semicolon(text: &[u8]) -> (&[u8], &[u8])
     ensures before { result.0.now ≡ before_first is_semicolon text.now }
     ensures after { result.1.now ≡ after_first is_semicolon text.now }
 {
@@ -76,7 +76,7 @@ pub fn first_short_field(text: &[u8]) -> (&[u8], &[u8])
         → fields_of text.now ≡ result.0.now ∷ fields_of result.1.now }
     ensures fewer { count_by is_semicolon result.1.now ≡ count_by is_semicolon text.now - 1 }
 {
-    let (first, others) = near_cut(text);
+    let (first, others) = cut_at_near_semicolon(text);
     (trim_short(first), others)
 }
 

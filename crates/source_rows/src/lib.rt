@@ -50,7 +50,7 @@ pub use laws::{
     spans_are_spelled, spellings_are_one, texts_read_back,
 };
 pub use mapping::{Mapping, some_mapping_of};
-pub use point_values::{PointValues, read_below, read_point_values};
+pub use point_values::{PointValues, read_point_values, read_point_values_with_cache};
 pub use read::{has_values, read_row, read_row_ref, read_valued};
 pub use row_keys::row_key;
 pub use row_ref::RowRef;

@@ -97,7 +97,7 @@ impl<'a> Mapping<'a> {
     }
 
     /// A copy of the mapping: it has the same code points, and stands on the same text.
-    pub fn again(&self) -> Mapping<'a>
+    pub fn duplicate(&self) -> Mapping<'a>
         ensures { result ≡ self.now }
     {
         Mapping {

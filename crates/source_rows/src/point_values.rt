@@ -14,7 +14,7 @@ use crate::fault::RowFault;
 use crate::fields::{first_field, first_short_field};
 use crate::fields_cache::FieldsCache;
 use crate::lines::holds_line_feed;
-use crate::unicode_data::{read_pair, single_end};
+use crate::unicode_data::{read_pair, span_of_line};
 use ucd_facts::{SourceFile, Span};
 use ucd_lines::{cut, hex};
 
@@ -57,7 +57,7 @@ fn single_values<'a>(
     if !is_name(f1) {
         return Err(RowFault::G11);
     }
-    given_or_fault(values, single_end(point, f1))
+    given_or_fault(values, span_of_line(point, f1))
 }
 
 /// What the row of two lines gives, or its first fault.
@@ -77,7 +77,7 @@ fn pair_values<'a>(front: &'a [u8], last: &[u8]) -> Result<PointValues<'a>, RowF
 ///
 /// UAX #44, sections 4.2.3 and 5.3, table 9.
 #[tactic(auto, unfolding(crate::specs::Faults::row_or_fault))]
-pub fn read_below<'a>(
+pub fn read_point_values_with_cache<'a>(
     bytes: &'a [u8],
     above: &mut FieldsCache<'a>,
 ) -> Result<PointValues<'a>, RowFault>
@@ -92,7 +92,7 @@ pub fn read_below<'a>(
 
 /// What a row gives to its code points, as it stands in a line of UnicodeData.txt, or in the two lines of a range: the row
 /// that [`read_row`](crate::read_row) reads from them. The fields that give nothing are passed over, and no memory is taken.
-/// Unlike [`read_below`], it keeps nothing of a line for the next one.
+/// Unlike [`read_point_values_with_cache`], it keeps nothing of a line for the next one.
 ///
 /// A fault says that the bytes are no row, and is the first rule that they break.
 ///
@@ -100,5 +100,5 @@ pub fn read_below<'a>(
 pub fn read_point_values(bytes: &[u8]) -> Result<PointValues<'_>, RowFault>
     ensures { PointValuesAs result (row_or_fault SourceFile.UnicodeData bytes.now) }
 {
-    read_below(bytes, &mut FieldsCache::of_letter())
+    read_point_values_with_cache(bytes, &mut FieldsCache::of_letter())
 }

@@ -15,7 +15,7 @@ use crate::code_point::{has_first_name, has_last_name, is_name, is_range_name, l
 use crate::data_text::DataText;
 use crate::data_values::read_values;
 use crate::fault::RowFault;
-use crate::fields::{field_count, near_cut, two_fields};
+use crate::fields::{cut_at_near_semicolon, field_count, two_fields};
 use crate::fifteen::{DataFields, FIELDS, fifteen_fields};
 use crate::lines::{holds_line_feed, without_return};
 use crate::row_ref::RowRef;
@@ -44,7 +44,7 @@ fn text_or_fault<'a>(
 }
 
 /// The span of a line by itself.
-pub fn single_end(point: Point, name: &[u8]) -> Result<Span, RowFault>
+pub fn span_of_line(point: Point, name: &[u8]) -> Result<Span, RowFault>
     ensures { result ≡ single_end point name.now }
 {
     if is_range_name(name) {
@@ -68,7 +68,7 @@ fn read_single(content: &[u8]) -> Result<DataText<'_>, RowFault>
     if !is_name(line.f1) {
         return Err(RowFault::G11);
     }
-    text_or_fault(&line, false, line.f1, single_end(point, line.f1))
+    text_or_fault(&line, false, line.f1, span_of_line(point, line.f1))
 }
 
 /// Whether a text begins with white space or `<`, as the text of a name that begins with `<` does.
@@ -87,7 +87,7 @@ fn may_open_name(text: &[u8]) -> bool
 pub fn begins_range(content: &[u8]) -> bool
     ensures { result ≡ is_first_line content.now }
 {
-    let (_, others) = near_cut(content);
+    let (_, others) = cut_at_near_semicolon(content);
     if !may_open_name(others) {
         return false;
     }
@@ -108,7 +108,7 @@ fn ends_range(label: &[u8], content: &[u8]) -> bool
 
 /// The span of a range, by its label, its first code point and its last line.
 #[tactic(auto, unfolding(ucd_points::specs::Fields::fields, crate::specs::DataFaults::pair_end))]
-fn pair_end(label: &[u8], lo: Point, last: &[u8]) -> Result<Span, RowFault>
+fn span_of_range(label: &[u8], lo: Point, last: &[u8]) -> Result<Span, RowFault>
     ensures { result ≡ pair_end label.now lo (fields SourceFile.UnicodeData last.now) }
 {
     if !ends_range(label, last) {
@@ -137,7 +137,7 @@ pub fn read_pair<'a>(front: &'a [u8], last: &[u8]) -> Result<DataText<'a>, RowFa
         return Err(RowFault::G04);
     };
     let label = label_of(b", First>", line.f1);
-    text_or_fault(&line, true, label, pair_end(label, lo, last))
+    text_or_fault(&line, true, label, span_of_range(label, lo, last))
 }
 
 /// The row of a line, or of the two lines of a range. The rules are tested in this order:

@@ -5,7 +5,7 @@ ghost use Rattle.std.specs.Prelude.{◌≡◌, ◌≢◌, ◌↔◌, length, cod
 ghost use Rattle.source_rows.specs.Fields.{fields_of};
 ghost use Rattle.source_rows.specs.PointValues.{HasCaseFields, HasUsedFields};
 
-use crate::fields::{behind_fields, field_count, first_short_field, near_cut};
+use crate::fields::{behind_fields, cut_at_near_semicolon, field_count, first_short_field};
 
 /// The fields behind the name that are read, each a part of the line. Fields 4 and 6 to 11 are passed over.
 #[derive(Clone, Copy)]
@@ -72,7 +72,7 @@ pub fn used_fields(tail: &[u8]) -> Option<UsedFields<'_>>
 {
     let (f2, rest) = first_short_field(tail);
     let (f3, rest) = first_short_field(rest);
-    let (_, rest) = near_cut(rest);
+    let (_, rest) = cut_at_near_semicolon(rest);
     let (f5, rest) = first_short_field(rest);
     let CaseFields { f12, f13, f14 } = case_fields(rest)?;
     Some(UsedFields {

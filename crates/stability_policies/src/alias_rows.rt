@@ -17,7 +17,7 @@ use ucd_model::{ListOf, Memory, Row, SourceFile, Text, Texts};
 /// Puts the breaks of P17 by the rows of a file, by line.
 ///
 /// - `Memory`: memory ran out.
-pub fn put_lost(
+pub fn put_lost_aliases(
     alloc: Global,
     file: SourceFile,
     old: &Release,

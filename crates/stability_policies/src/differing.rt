@@ -62,7 +62,7 @@ pub fn put_differing(
     let mut at_old = 0;
     let mut at_new = 0;
     'rows: while at_old < old.len() && at_new < new.len() {
-        let step = take_one(alloc, &old[at_old], &new[at_new], before, after)?;
+        let step = take_same_or_first(alloc, &old[at_old], &new[at_new], before, after)?;
         at_old += step.olds();
         at_new += step.news();
     }
@@ -75,7 +75,7 @@ pub fn put_differing(
 /// and puts its name.
 ///
 /// - `Memory`: memory ran out.
-fn take_one(
+fn take_same_or_first(
     alloc: Global,
     old: &RowText<'_>,
     new: &RowText<'_>,

@@ -32,13 +32,13 @@ pub fn put_renamed(
 {
     let before = data_rows(alloc, old)?;
     let after = data_rows(alloc, new)?;
-    put_among(alloc, &before, &after, into)
+    put_renamed_among_rows(alloc, &before, &after, into)
 }
 
 /// Puts the breaks of P02 by the rows of UnicodeData.txt of two releases. Rows that stand in both are not read.
 ///
 /// - `Memory`: memory ran out.
-fn put_among(
+fn put_renamed_among_rows(
     alloc: Global,
     old: &[RowText<'_>],
     new: &[RowText<'_>],
@@ -54,13 +54,17 @@ fn put_among(
     let mut before = Vec::new(alloc);
     let mut after = Vec::new(alloc);
     put_differing(alloc, old, new, &mut before, &mut after)?;
-    put_between(before.as_slice(), after.as_slice(), into)
+    put_renamed_among_names(before.as_slice(), after.as_slice(), into)
 }
 
 /// Puts the breaks of P02 between the names of two releases. Each stretch with one name in both is looked at once.
 ///
 /// - `Memory`: memory ran out.
-fn put_between(before: &[NamedRow], after: &[NamedRow], into: &mut Breaks) -> Result<(), Memory>
+fn put_renamed_among_names(
+    before: &[NamedRow],
+    after: &[NamedRow],
+    into: &mut Breaks,
+) -> Result<(), Memory>
     requires before { AreAbove 0 before.now }
     requires after { AreAbove 0 after.now }
     ensures { OnOk result (into.new ≡ into.old
@@ -73,8 +77,8 @@ fn put_between(before: &[NamedRow], after: &[NamedRow], into: &mut Breaks) -> Re
     'stretches: while number < Point::COUNT {
         let end = end_at(olds, number).min(end_at(news, number));
         put_if_renamed(olds, news, number, end, into)?;
-        olds = left_behind(olds, end);
-        news = left_behind(news, end);
+        olds = rows_from(olds, end);
+        news = rows_from(news, end);
         number = end;
     }
     Ok(())
@@ -105,14 +109,14 @@ fn put_if_renamed(
 fn is_renamed(old: &[NamedRow], new: &[NamedRow], number: u32) -> bool
     ensures { result ≡ differ (name_here number old.now) (name_here number new.now) }
 {
-    match (row_here(old, number), row_here(new, number)) {
+    match (row_at(old, number), row_at(new, number)) {
         (Some(a), Some(b)) => a.name.as_slice() != b.name.as_slice(),
         _ => false,
     }
 }
 
 /// The first row, if it covers a code point or ends before it.
-fn row_here(rows: &[NamedRow], number: u32) -> Option<&NamedRow>
+fn row_at(rows: &[NamedRow], number: u32) -> Option<&NamedRow>
     ensures { row_name (option_copied result) ≡ name_here number rows.now }
 {
     match rows {
@@ -137,7 +141,7 @@ fn end_at(rows: &[NamedRow], number: u32) -> u32
 }
 
 /// The rows without the first one, if it ends before `number`.
-fn left_behind(rows: &[NamedRow], number: u32) -> &[NamedRow]
+fn rows_from(rows: &[NamedRow], number: u32) -> &[NamedRow]
     ensures { result.now ≡ left_behind number rows.now }
 {
     match rows {

@@ -8,7 +8,7 @@ ghost use Rattle.stability_policies.specs.Reports.{breaks_of, lost_in, report};
 ghost use Rattle.release_rows.specs.Releases.{rows_now};
 ghost use Rattle.stability_policies.specs.Views.{Belongs, IsValid};
 
-use crate::alias_rows::put_lost;
+use crate::alias_rows::put_lost_aliases;
 use crate::breaks::Breaks;
 use crate::names::put_renamed;
 use crate::point_breaks::put_points;
@@ -79,6 +79,6 @@ fn put_lost_names(
         ++ (lost_in PropertyAliases old.now new.now
         ++ lost_in PropertyValueAliases old.now new.now)) }
 {
-    put_lost(alloc, SourceFile::PropertyAliases, old, new, into)?;
-    put_lost(alloc, SourceFile::PropertyValueAliases, old, new, into)
+    put_lost_aliases(alloc, SourceFile::PropertyAliases, old, new, into)?;
+    put_lost_aliases(alloc, SourceFile::PropertyValueAliases, old, new, into)
 }

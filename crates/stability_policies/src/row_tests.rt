@@ -35,11 +35,11 @@ pub fn changes_mapping(old: &FactsRef<'_>, new: &FactsRef<'_>) -> bool
 fn has_same_mapping(old: &FactsRef<'_>, new: &FactsRef<'_>) -> bool
     ensures { result ≡ same_mapping (shown_facts old.now) (shown_facts new.now) }
 {
-    sort_of(old.kind) == sort_of(new.kind) && old.mapping == new.mapping
+    mapping_sort(old.kind) == mapping_sort(new.kind) && old.mapping == new.mapping
 }
 
 /// The sort of a mapping: none, canonical, or a compatibility mapping with any tag.
-fn sort_of(kind: Kind) -> u8
+fn mapping_sort(kind: Kind) -> u8
     ensures { result ≡ sort_of kind }
 {
     match kind {
@@ -54,7 +54,7 @@ pub fn changes_control(old: &FactsRef<'_>, new: &FactsRef<'_>) -> bool
     ensures { result ≡ in_one (is_of_category Cc (shown_facts old.now))
         (is_of_category Cc (shown_facts new.now)) }
 {
-    is_in_one(
+    is_exactly_one(
         is_of_category(old, Category::Cc),
         is_of_category(new, Category::Cc),
     )
@@ -67,10 +67,10 @@ pub fn changes_private_use(old: &FactsRef<'_>, new: &FactsRef<'_>) -> bool
         || in_one (is_of_category Co (shown_facts old.now))
         (is_of_category Co (shown_facts new.now))) }
 {
-    is_in_one(
+    is_exactly_one(
         is_of_category(old, Category::Cs),
         is_of_category(new, Category::Cs),
-    ) || is_in_one(
+    ) || is_exactly_one(
         is_of_category(old, Category::Co),
         is_of_category(new, Category::Co),
     )
@@ -81,7 +81,7 @@ pub fn changes_noncharacter(old: &FactsRef<'_>, new: &FactsRef<'_>) -> bool
     ensures { result ≡ in_one ((shown_facts old.now).flag NoncharacterCodePoint)
         ((shown_facts new.now).flag NoncharacterCodePoint) }
 {
-    is_in_one(
+    is_exactly_one(
         old.flags.has(Flag::NoncharacterCodePoint),
         new.flags.has(Flag::NoncharacterCodePoint),
     )
@@ -94,10 +94,10 @@ pub fn changes_pattern(old: &FactsRef<'_>, new: &FactsRef<'_>) -> bool
         || in_one ((shown_facts old.now).flag PatternWhiteSpace)
         ((shown_facts new.now).flag PatternWhiteSpace)) }
 {
-    is_in_one(
+    is_exactly_one(
         old.flags.has(Flag::PatternSyntax),
         new.flags.has(Flag::PatternSyntax),
-    ) || is_in_one(
+    ) || is_exactly_one(
         old.flags.has(Flag::PatternWhiteSpace),
         new.flags.has(Flag::PatternWhiteSpace),
     )
@@ -124,7 +124,7 @@ fn is_of_category(facts: &FactsRef<'_>, category: Category) -> bool
 }
 
 /// Whether exactly one of the two holds.
-fn is_in_one(a: bool, b: bool) -> bool
+fn is_exactly_one(a: bool, b: bool) -> bool
     ensures { result ≡ in_one a b }
 {
     a != b

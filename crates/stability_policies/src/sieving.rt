@@ -84,7 +84,7 @@ fn other_stretches<O: Records + UniformFacts, N: Records + UniformFacts>(
     'points: while number < Point::COUNT {
         let c = Point::at(number);
         let last = last_alike(old, new, c);
-        keep_forms &= put_others(alloc, old, new, c, last, &mut stretches)?;
+        keep_forms &= put_other_policies(alloc, old, new, c, last, &mut stretches)?;
         number = last.number() + 1;
     }
     Ok(OtherStretches {
@@ -97,7 +97,7 @@ fn other_stretches<O: Records + UniformFacts, N: Records + UniformFacts>(
 /// is whether the code point keeps what forms rest on.
 ///
 /// - `Memory`: memory ran out.
-fn put_others<O: Records + UniformFacts, N: Records + UniformFacts>(
+fn put_other_policies<O: Records + UniformFacts, N: Records + UniformFacts>(
     alloc: Global,
     old: &O,
     new: &N,

@@ -20,7 +20,7 @@ impl FactView for ListOf<(Point, Facts)> {
     fn facts(&self, c: Point) -> FactsRef<'_> {
         'entries: for entry in self.as_slice() {
             if entry.0 == c {
-                return entry.1.shown();
+                return entry.1.as_ref();
             }
         }
         FactsRef::unassigned(c)

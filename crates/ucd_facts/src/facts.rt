@@ -79,7 +79,7 @@ impl Facts {
     }
 
     /// The facts as a view shows them.
-    pub fn shown(&self) -> FactsRef<'_>
+    pub fn as_ref(&self) -> FactsRef<'_>
         ensures { shown_facts result ≡ kept_facts self.now }
     {
         FactsRef {
@@ -92,10 +92,10 @@ impl Facts {
             simple_lower: self.simple_lower,
             simple_title: self.simple_title,
             simple_fold: self.simple_fold,
-            upper: self.upper.shown(),
-            lower: self.lower.shown(),
-            title: self.title.shown(),
-            fold: self.fold.shown(),
+            upper: self.upper.as_points(),
+            lower: self.lower.as_points(),
+            title: self.title.as_points(),
+            fold: self.fold.as_points(),
             flags: self.flags,
             mid_word: self.mid_word,
             excluded: self.excluded,

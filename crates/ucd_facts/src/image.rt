@@ -29,7 +29,7 @@ impl Image {
     }
 
     /// The code points as a view shows them; `None` for the point itself alone.
-    pub fn shown(&self) -> Option<&[Point]>
+    pub fn as_points(&self) -> Option<&[Point]>
         ensures { image_shown result ≡ self.now }
     {
         match self {

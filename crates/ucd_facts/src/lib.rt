@@ -18,8 +18,8 @@ mod image;
 mod property;
 mod query;
 mod row;
+mod same_facts;
 mod sets;
-mod shown;
 mod uniform;
 mod view;
 
@@ -36,8 +36,8 @@ pub use query::{Queries, Query};
 pub use row::{
     AliasRow, CasingRow, DataRow, ExclusionRow, FoldRow, FoldStatus, OtherFields, Row, ValueRow,
 };
+pub use same_facts::same_facts;
 pub use sets::{CoreSet, Flags};
-pub use shown::same_facts;
 pub use ucd_points::{
     Copied, FILE_LIMIT, ListOf, Memory, Point, Points, SOURCE_FILES, SourceFile, Span, Spans, Text,
     Texts, file_limit, point_count, same_points,

@@ -20,13 +20,13 @@ pub fn leading_blanks(text: &[u8]) -> usize
 {
     match text {
         [first, ..] if !is_blank(*first) => 0,
-        _ => first_other(text),
+        _ => first_nonblank(text),
     }
 }
 
 /// The place of the first byte that is no white space, or the length of the text if there is none. White space is mostly short,
 /// so it goes byte by byte.
-fn first_other(text: &[u8]) -> usize
+fn first_nonblank(text: &[u8]) -> usize
     ensures place { result ≡ prefix_len is_blank text.now }
     ensures within { result ≤ length text.now }
 {
@@ -45,7 +45,7 @@ fn trim_start(text: &[u8]) -> &[u8]
 }
 
 /// The place behind the last byte that is no white space, or 0 if there is none. It goes byte by byte too.
-fn behind_last_other(text: &[u8]) -> usize
+fn end_of_last_nonblank(text: &[u8]) -> usize
     ensures place { result ≡ length text.now - suffix_len is_blank text.now }
     ensures within { result ≤ length text.now }
 {
@@ -62,7 +62,7 @@ fn trim_end(text: &[u8]) -> &[u8]
 {
     match text {
         [.., last] if !is_blank(*last) => text,
-        _ => &text[..behind_last_other(text)],
+        _ => &text[..end_of_last_nonblank(text)],
     }
 }
 

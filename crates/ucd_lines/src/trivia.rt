@@ -20,7 +20,7 @@ pub fn missing_rest(file: SourceFile, content: &[u8]) -> Option<&[u8]>
         return None;
     }
     match unindented(content) {
-        [b'#', behind @ ..] => behind_mark(unindented(behind)),
+        [b'#', behind @ ..] => behind_missing_mark(unindented(behind)),
         _ => None,
     }
 }
@@ -60,7 +60,7 @@ fn is_comment(content: &[u8]) -> bool
 }
 
 /// What stands behind `@missing:`, if the bytes begin with it.
-fn behind_mark(bytes: &[u8]) -> Option<&[u8]>
+fn behind_missing_mark(bytes: &[u8]) -> Option<&[u8]>
     ensures rest { option_map (λ rest. rest.now) result ≡ behind_mark bytes.now }
     ensures shorter { IfSome result (λ rest. length rest.now ≤ length bytes.now) }
 {

@@ -8,7 +8,7 @@ pub mod sameness_laws;
 mod steps;
 pub mod validity_laws;
 
-pub use pieces::equal_pieces;
+pub use pieces::equal_record_spans;
 pub use records::{Record, Records};
 pub use steps::Steps;
 pub use ucd_facts::{

@@ -11,7 +11,7 @@ use ucd_points::{Memory, Point, Span, Spans, point_count};
 /// Spans that follow one another over all code points, in each of which the records are equal.
 ///
 /// - `Memory`: memory ran out.
-pub fn equal_pieces<B: Records>(alloc: Global, bench: &B) -> Result<Spans, Memory>
+pub fn equal_record_spans<B: Records>(alloc: Global, bench: &B) -> Result<Spans, Memory>
     ensures { IfOk result (λ pieces. IsCut (B.record_of bench.now) 0 point_count pieces) }
 {
     let mut pieces = Spans::new(alloc);

@@ -64,11 +64,11 @@ fn answer_first<'c>(
         (counted carried.old + 1) behind.now carried.new rest.now) }
 {
     answer_one(alloc, asking, line, text, carried)?;
-    answer_more(alloc, asking, behind, carried)
+    answer_leading_questions(alloc, asking, behind, carried)
 }
 
 /// Answers the questions at the front of the commands, and returns the commands that are left.
-fn answer_more<'c>(
+fn answer_leading_questions<'c>(
     alloc: Global,
     asking: &Asking<'_>,
     commands: &'c [Command],

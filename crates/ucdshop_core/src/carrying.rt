@@ -63,14 +63,14 @@ fn carry_all<L: Ledger>(
     let mut carried = Carried::new(alloc);
     let mut rest = commands;
     'commands: while !rest.is_empty() {
-        rest = carry_some(alloc, bench, kept, rest, &mut carried, steps)?;
+        rest = carry_first_commands(alloc, bench, kept, rest, &mut carried, steps)?;
     }
     Ok(carried)
 }
 
 /// Carries out the first command, and if it is a question, all questions that stand directly behind it. It returns the
 /// commands that are left.
-fn carry_some<'c, L: Ledger>(
+fn carry_first_commands<'c, L: Ledger>(
     alloc: Global,
     bench: &mut Bench,
     kept: &mut QuestionCache,

@@ -21,7 +21,7 @@ pub struct Given {
 /// The release of a number, and its script.
 ///
 /// - `Memory`: memory ran out.
-pub fn made_given(alloc: Global, number: u8) -> Result<Given, Memory>
+pub fn given_of_made_release(alloc: Global, number: u8) -> Result<Given, Memory>
     requires least { 1 ≤ number }
     requires most { number ≤ 50 }
     ensures held { IfOk result (λ given. given.held.items ≡ made_texts number) }

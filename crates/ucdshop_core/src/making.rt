@@ -14,7 +14,7 @@ use ucd_model::{Image, Memory, Point, Record, Records, SourceFile};
 ///
 /// - `Memory`: there are 2^64 or more.
 #[tactic(auto, using(crate::proofs::MakingLemmas::numbered_count))]
-pub fn data_rows(bench: &Bench) -> Result<usize, Memory>
+pub fn count_data_rows(bench: &Bench) -> Result<usize, Memory>
     ensures { IfOk result (λ count. count ≡ data_rows bench.now.current) }
 {
     let mut rows = bench.release().rows(SourceFile::UnicodeData);
@@ -29,7 +29,7 @@ pub fn data_rows(bench: &Bench) -> Result<usize, Memory>
 }
 
 /// How many code points the section NFKC_CF lists over the release of a bench: it looks once at each stretch of equal records.
-pub fn casefolds(bench: &Bench) -> usize
+pub fn count_casefolds(bench: &Bench) -> usize
     ensures { result ≡ casefolds bench.now.current }
 {
     let last_of = |c: Point|

@@ -8,9 +8,9 @@ ghost use Rattle.ucdshop_core.specs.Run.{ending_of, summary_of};
 
 use crate::carried::Carried;
 use crate::job::Job;
-use crate::making::casefolds;
+use crate::making::count_casefolds;
 use crate::outputs::{Work, outputs_of};
-use crate::printed::{MadeCounts, RunCounts, made_summary, summary};
+use crate::summary_lines::{MadeCounts, RunCounts, made_summary, summary};
 use run_endings::Plan;
 use stability_policies::Breaks;
 use std::alloc::Global;
@@ -31,12 +31,12 @@ pub fn plan_of(alloc: Global, job: Job<'_>, rows: usize, work: Work<'_>) -> Resu
     Ok(Plan {
         outputs,
         summary,
-        done: is_done(work.carried, work.breaks),
+        done: has_refusal_or_break(work.carried, work.breaks),
     })
 }
 
 /// Whether a command was refused or a policy is broken.
-fn is_done(carried: &Carried, breaks: &Breaks) -> bool
+fn has_refusal_or_break(carried: &Carried, breaks: &Breaks) -> bool
     ensures { result ≡ (nat_lt 0 carried.now.refused || nat_lt 0 (length breaks.now)) }
 {
     carried.refused > 0 || breaks.len() > 0
@@ -55,7 +55,7 @@ fn summary_of(alloc: Global, made: Option<u8>, rows: usize, work: Work<'_>) -> R
             rows,
             accepted: carried.accepted,
             changed: carried.changed,
-            casefolds: casefolds(work.bench),
+            casefolds: count_casefolds(work.bench),
         };
         return made_summary(alloc, counts);
     }

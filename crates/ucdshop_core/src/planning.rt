@@ -17,17 +17,17 @@ ghost use Rattle.script_lines.specs.Groups.{IsWellFormed};
 ghost use Rattle.ucdshop_core.specs.Session.{started};
 
 use crate::carrying::carry_out;
-use crate::given::{Given, made_given};
+use crate::given::{Given, given_of_made_release};
 use crate::inputs::{Inputs, judge_inputs};
 use crate::job::Job;
-use crate::making::data_rows;
+use crate::making::count_data_rows;
 use crate::needed::needed_paths;
 use crate::outputs::Work;
 use crate::plan::plan_of;
 use crate::policies::breaks_since;
 use edit_session::Bench;
 use release_maker::Made;
-use run_endings::{Plan, Stop, gather, make_room};
+use run_endings::{Plan, Stop, make_room, read_inputs};
 use script_lines::{Command as ScriptCommand, Commands};
 use shelf_io::Shelf;
 use std::alloc::Global;
@@ -133,7 +133,7 @@ fn counted_rows(made: Option<u8>, bench: &Bench) -> Result<usize, Memory>
     ensures { IfOk result (λ rows. CountsRows made rows bench.now.current) }
 {
     match made {
-        Some(_) => data_rows(bench),
+        Some(_) => count_data_rows(bench),
         None => Ok(0),
     }
 }
@@ -143,7 +143,7 @@ fn counted_rows(made: Option<u8>, bench: &Bench) -> Result<usize, Memory>
 ///
 /// - `Refused(line)`: a file, a code point or the script breaks a rule.
 /// - `Memory`: memory ran out.
-fn given_plan<L: Ledger>(
+fn plan_given<L: Ledger>(
     alloc: Global,
     job: Job<'_>,
     given: Given,
@@ -168,7 +168,7 @@ fn given_plan<L: Ledger>(
 ///
 /// - `ReadFailed(line)`: a file could not be read.
 /// - `Memory`: memory ran out.
-fn given_texts<S: Shelf>(alloc: Global, job: Job<'_>, shelf: &mut S) -> Result<Given, Stop>
+fn texts_read_or_made<S: Shelf>(alloc: Global, job: Job<'_>, shelf: &mut S) -> Result<Given, Stop>
     requires { IsListed (job_of job) }
     ensures given { IfOk result (λ given. IsMadeForJob given (job_of job.entry)) }
     ensures verdict { IfOk result
@@ -181,7 +181,7 @@ fn given_texts<S: Shelf>(alloc: Global, job: Job<'_>, shelf: &mut S) -> Result<G
     ensures only_read { OnlyRead (shelf_seen S.Shelf shelf.old shelf.new) }
 {
     match job.made {
-        Some(number) => Ok(made_given(alloc, number)?),
+        Some(number) => Ok(given_of_made_release(alloc, number)?),
         None => read_texts(alloc, job, shelf),
     }
 }
@@ -197,7 +197,7 @@ fn read_texts<S: Shelf>(alloc: Global, job: Job<'_>, shelf: &mut S) -> Result<Gi
     ensures only_read { OnlyRead (shelf_seen S.Shelf shelf.old shelf.new) }
 {
     let paths = needed_paths(alloc, job)?;
-    let held = gather(alloc, shelf, paths.as_slice())?;
+    let held = read_inputs(alloc, shelf, paths.as_slice())?;
     Ok(Given { held, made: None })
 }
 
@@ -230,8 +230,8 @@ pub fn prepare<S: Shelf, L: Ledger>(
     ensures stops { StopCounts result (Some (job_of job.entry)) steps.old steps.new }
     ensures steps { StepsWithoutScript (job_of job.entry) steps.old steps.new }
 {
-    let given = given_texts(alloc, job, shelf)?;
-    let plan = given_plan(alloc, job, given, steps)?;
+    let given = texts_read_or_made(alloc, job, shelf)?;
+    let plan = plan_given(alloc, job, given, steps)?;
     make_room(shelf, &plan)?;
     Ok(plan)
 }

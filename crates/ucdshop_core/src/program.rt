@@ -9,7 +9,7 @@ ghost use Rattle.ucdshop_core.specs.Run.{ucdshop};
 ghost use Rattle.ucdshop_core.specs.Jobs.{form};
 
 use crate::planning::prepare;
-use crate::printed::USAGE;
+use crate::summary_lines::USAGE;
 use crate::words::job_of;
 use run_endings::{Plan, Status, Stop, end_run};
 use shelf_io::{Shelf, Sink};

@@ -22,7 +22,7 @@ fn number_of_one(ones: u8) -> Option<u8>
     ensures range { IsInRange result }
 {
     if is_digit(ones) {
-        limited(ones - b'0')
+        if_allowed(ones - b'0')
     } else {
         None
     }
@@ -34,7 +34,7 @@ fn number_of_two(tens: u8, ones: u8) -> Option<u8>
     ensures range { IsInRange result }
 {
     if is_digit(tens) && is_digit(ones) && tens > b'0' {
-        limited(10 * (tens - b'0') + (ones - b'0'))
+        if_allowed(10 * (tens - b'0') + (ones - b'0'))
     } else {
         None
     }
@@ -48,7 +48,7 @@ fn is_digit(byte: u8) -> bool
 }
 
 /// The number, if it is from 1 to 50.
-fn limited(number: u8) -> Option<u8>
+fn if_allowed(number: u8) -> Option<u8>
     ensures number { result ≡ limited number }
     ensures range { IsInRange result }
 {

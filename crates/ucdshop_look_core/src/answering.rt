@@ -26,22 +26,26 @@ pub fn answers_plan(alloc: Global, bench: Bench, questions: &[Text]) -> Result<P
     ensures { IfOk result (HasPlan (ask_ending questions.now bench.current)) }
 {
     let recorded = bench.into_release_records();
-    plan_over(alloc, &recorded, questions)
+    plan_owning_names(alloc, &recorded, questions)
 }
 
 /// What `answers_plan` makes, by the records. It owns the names, and a call lets them go: their many parts would else fill its proof.
-fn plan_over(alloc: Global, recorded: &ReleaseRecords, questions: &[Text]) -> Result<Plan, Memory>
+fn plan_owning_names(
+    alloc: Global,
+    recorded: &ReleaseRecords,
+    questions: &[Text],
+) -> Result<Plan, Memory>
     ensures { IfOk result (HasPlan (ask_ending questions.now recorded.now.current)) }
 {
     let mut names = KeptNames::nothing();
-    let plan = plan_beside(alloc, recorded, &mut names, questions);
+    let plan = plan_owning_pieces(alloc, recorded, &mut names, questions);
     drop(names);
     plan
 }
 
 /// What `ask` tells of these questions, by the records and what is kept of names. It owns the pieces of equal records. The
 /// spans by which these are made are let go of before names are read.
-fn plan_beside(
+fn plan_owning_pieces(
     alloc: Global,
     recorded: &ReleaseRecords,
     kept: &mut KeptNames,
@@ -51,11 +55,11 @@ fn plan_beside(
     ensures { IfOk result (HasPlan (ask_ending questions.now recorded.now.current)) }
 {
     let pieces = record_pieces(alloc, recorded)?;
-    plan_by(alloc, recorded, &pieces, kept, questions)
+    plan_with_pieces(alloc, recorded, &pieces, kept, questions)
 }
 
 /// What `ask` tells of these questions, by the records, the pieces of equal records and what is kept of names. It owns nothing.
-fn plan_by(
+fn plan_with_pieces(
     alloc: Global,
     recorded: &ReleaseRecords,
     pieces: &RecordPieces,
@@ -67,7 +71,7 @@ fn plan_by(
     ensures { IfOk result (HasPlan (ask_ending questions.now recorded.now.current)) }
 {
     kept.fill(alloc, recorded.release())?;
-    plan_named(alloc, recorded, pieces, kept.names(), questions)
+    plan_with_names(alloc, recorded, pieces, kept.names(), questions)
 }
 
 /// The pieces of equal records.
@@ -81,7 +85,7 @@ fn record_pieces(alloc: Global, recorded: &ReleaseRecords) -> Result<RecordPiece
 }
 
 /// What `ask` tells of these questions, by the records, the pieces of equal records and the names of the rows.
-fn plan_named(
+fn plan_with_names(
     alloc: Global,
     recorded: &ReleaseRecords,
     pieces: &RecordPieces,
@@ -93,11 +97,11 @@ fn plan_named(
     ensures { IfOk result (HasPlan (ask_ending questions.now recorded.now.current)) }
 {
     let asking = Asking::of(recorded, recorded.release(), pieces, names);
-    plan_from(alloc, &asking, questions)
+    plan_of_answers(alloc, &asking, questions)
 }
 
 /// What `ask` tells of these questions, by what answers them. The text of the answers is made once, and moves into the plan.
-fn plan_from(alloc: Global, asking: &Asking<'_>, questions: &[Text]) -> Result<Plan, Memory>
+fn plan_of_answers(alloc: Global, asking: &Asking<'_>, questions: &[Text]) -> Result<Plan, Memory>
     ensures { IfOk result (HasPlan (ask_ending questions.now asking.now)) }
 {
     let mut text = Text::new(alloc);

@@ -18,7 +18,7 @@ ghost use Rattle.ucdshop_look_core.specs.PointSpans.{AreInOrder, point_spans};
 use crate::spanning::point_spans;
 use edit_session::{ApplyStop, Bench};
 use record_lines::laws::following_catches_up;
-use record_lines::{Earlier, put_changes};
+use record_lines::{EarlierRecords, put_changes};
 use release_rows::Op;
 use run_endings::Plan;
 use run_inputs::put_refused;
@@ -46,14 +46,14 @@ pub fn changes_plan<L: Ledger>(
         commands,
         ..
     } = inputs;
-    plan_over(alloc, bench, commands, steps)
+    plan_owning_bench(alloc, bench, commands, steps)
 }
 
 /// Carries out the groups among the commands on a bench, and makes what `changes` tells of them. Questions are not answered.
 /// The bench and the commands are let go.
 ///
 /// - `Memory`: memory ran out.
-fn plan_over<L: Ledger>(
+fn plan_owning_bench<L: Ledger>(
     alloc: Global,
     bench: Bench,
     commands: Commands,
@@ -63,18 +63,18 @@ fn plan_over<L: Ledger>(
     ensures { IfOk result (HasPlan (stages_ending (stages bench.current commands))) }
 {
     let mut bench = bench;
-    let earlier = Earlier::of(alloc, &bench)?;
-    plan_from(alloc, &mut bench, earlier, commands.as_slice(), steps)
+    let earlier = EarlierRecords::of(alloc, &bench)?;
+    plan_owning_earlier(alloc, &mut bench, earlier, commands.as_slice(), steps)
 }
 
 /// Carries out the groups among the commands on a bench, and makes what `changes` tells of them. Questions are not answered.
 /// The earlier records are those of the bench, and are let go.
 ///
 /// - `Memory`: memory ran out.
-fn plan_from<L: Ledger>(
+fn plan_owning_earlier<L: Ledger>(
     alloc: Global,
     bench: &mut Bench,
-    earlier: Earlier,
+    earlier: EarlierRecords,
     commands: &[Command],
     steps: &mut Steps<L>,
 ) -> Result<Plan, Memory>
@@ -83,17 +83,17 @@ fn plan_from<L: Ledger>(
     ensures { IfOk result (HasPlan (stages_ending (stages bench.old.current commands.now))) }
 {
     let mut earlier = earlier;
-    plan_beside(alloc, bench, &mut earlier, commands, steps)
+    plan_following_bench(alloc, bench, &mut earlier, commands, steps)
 }
 
 /// Carries out the groups among the commands on a bench, and makes what `changes` tells of them. Questions are not answered.
 /// The earlier records are those of the bench, and follow it. The text is made once, and moves into the plan.
 ///
 /// - `Memory`: memory ran out.
-fn plan_beside<L: Ledger>(
+fn plan_following_bench<L: Ledger>(
     alloc: Global,
     bench: &mut Bench,
-    earlier: &mut Earlier,
+    earlier: &mut EarlierRecords,
     commands: &[Command],
     steps: &mut Steps<L>,
 ) -> Result<Plan, Memory>
@@ -102,7 +102,7 @@ fn plan_beside<L: Ledger>(
     ensures { IfOk result (HasPlan (stages_ending (stages bench.old.current commands.now))) }
 {
     let mut text = Text::new(alloc);
-    let refused = tell_all(alloc, bench, earlier, commands, &mut text, steps)?;
+    let refused = tell_commands(alloc, bench, earlier, commands, &mut text, steps)?;
     Ok(Plan {
         outputs: Vec::new(alloc),
         summary: text,
@@ -114,10 +114,10 @@ fn plan_beside<L: Ledger>(
 /// records are those of the bench, and follow it.
 ///
 /// - `Memory`: memory ran out.
-fn tell_all<L: Ledger>(
+fn tell_commands<L: Ledger>(
     alloc: Global,
     bench: &mut Bench,
-    earlier: &mut Earlier,
+    earlier: &mut EarlierRecords,
     commands: &[Command],
     text: &mut Text,
     steps: &mut Steps<L>,
@@ -144,7 +144,7 @@ fn tell_all<L: Ledger>(
 fn tell_command<L: Ledger>(
     alloc: Global,
     bench: &mut Bench,
-    earlier: &mut Earlier,
+    earlier: &mut EarlierRecords,
     command: &Command,
     text: &mut Text,
     steps: &mut Steps<L>,
@@ -181,7 +181,7 @@ fn tell_command<L: Ledger>(
 fn tell_group<L: Ledger>(
     alloc: Global,
     bench: &mut Bench,
-    earlier: &mut Earlier,
+    earlier: &mut EarlierRecords,
     line: u32,
     ops: &[Op],
     text: &mut Text,
@@ -219,7 +219,7 @@ fn tell_group<L: Ledger>(
 fn tell_accepted(
     alloc: Global,
     bench: &Bench,
-    earlier: &mut Earlier,
+    earlier: &mut EarlierRecords,
     line: u32,
     changed: &[Point],
     text: &mut Text,
@@ -265,7 +265,7 @@ fn put_spans(alloc: Global, points: &[Point], text: &mut Text) -> Result<(), Mem
 fn put_points(
     alloc: Global,
     bench: &Bench,
-    earlier: &Earlier,
+    earlier: &EarlierRecords,
     points: &[Point],
     text: &mut Text,
 ) -> Result<(), Memory>
@@ -285,7 +285,7 @@ fn put_points(
 fn put_point(
     alloc: Global,
     bench: &Bench,
-    earlier: &Earlier,
+    earlier: &EarlierRecords,
     point: Point,
     text: &mut Text,
 ) -> Result<(), Memory>

@@ -86,16 +86,16 @@ fn plan_of(
         (session_of bench.now carried.now))) }
 {
     let breaks = breaks_since(alloc, earlier, bench)?;
-    let text = text_of(alloc, carried, &breaks)?;
+    let text = text_of_check(alloc, carried, &breaks)?;
     Ok(Plan {
         outputs: Vec::new(alloc),
         summary: text,
-        done: is_done(carried, &breaks),
+        done: has_refusal_or_break(carried, &breaks),
     })
 }
 
 /// Whether a command was refused or a policy is broken.
-fn is_done(carried: &Carried, breaks: &Breaks) -> bool
+fn has_refusal_or_break(carried: &Carried, breaks: &Breaks) -> bool
     ensures { result ≡ (nat_lt 0 carried.now.refused || nat_lt 0 (length breaks.now)) }
 {
     carried.refused > 0 || breaks.len() > 0
@@ -103,7 +103,7 @@ fn is_done(carried: &Carried, breaks: &Breaks) -> bool
 
 /// The text that tells what carrying out commands came to, and what is broken: the summary of the run, a line for each refused
 /// command, and one for each broken policy.
-fn text_of(alloc: Global, carried: &Carried, breaks: &Breaks) -> Result<Text, Memory>
+fn text_of_check(alloc: Global, carried: &Carried, breaks: &Breaks) -> Result<Text, Memory>
     ensures { IfOk result (λ text. (files : List (List FileItem))
         → text ≡ check_text (session_on files carried.now) breaks.now) }
 {

@@ -23,7 +23,7 @@ use crate::changing::changes_plan;
 use crate::checking::check_plan;
 use crate::command::Command;
 use crate::showing::shown_plan;
-use run_endings::{Plan, Stop, gather};
+use run_endings::{Plan, Stop, read_inputs};
 use run_inputs::{open_folder, source_paths};
 use shelf_io::Shelf;
 use std::alloc::Global;
@@ -72,7 +72,7 @@ fn read_needed<S: Shelf>(
     ensures only_read { OnlyRead (shelf_seen S.Shelf shelf.old shelf.new) }
 {
     let paths = command_paths(alloc, command)?;
-    let held = gather(alloc, shelf, paths.as_slice())?;
+    let held = read_inputs(alloc, shelf, paths.as_slice())?;
     Ok(held)
 }
 

@@ -22,7 +22,7 @@ pub fn shown_plan(alloc: Global, bench: &Bench, words: &[Text]) -> Result<Plan, 
 {
     let mut told = records_told(alloc, bench, words)?;
     put_rows(alloc, bench.release(), told.as_mut_slice())?;
-    let summary = joined(alloc, told)?;
+    let summary = joined_texts(alloc, told)?;
     Ok(Plan {
         outputs: Vec::new(alloc),
         summary,
@@ -76,7 +76,7 @@ fn record_told(alloc: Global, bench: &Bench, point: Point) -> Result<PointText, 
 /// All that is printed, in order. The first text becomes the whole; each other one is let go once it is put.
 ///
 /// - `Memory`: memory ran out.
-fn joined(alloc: Global, told: Vec<PointText>) -> Result<Text, Memory>
+fn joined_texts(alloc: Global, told: Vec<PointText>) -> Result<Text, Memory>
     ensures { IfOk result (λ text. text ≡ flat_map (λ (one : Told). one.text) told.items) }
 {
     let mut left = told.into_iter();

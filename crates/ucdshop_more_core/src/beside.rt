@@ -8,7 +8,7 @@ ghost use Rattle.ucdshop_more_core.specs.Trials.{TellsLine};
 ghost use Rattle.ucdshop_more_core.specs.Turns.{piece_rule_code};
 
 use run_endings::Stop;
-use run_inputs::{ScriptRefusal, refused, script_line, source_paths};
+use run_inputs::{ScriptRefusal, refusal_line, script_line, source_paths};
 use script_pieces::PieceRule;
 use std::alloc::Global;
 use ucd_model::{Memory, Text, Texts};
@@ -28,7 +28,7 @@ pub fn paths_with(alloc: Global, input: &[u8], second: &[u8]) -> Result<Texts, M
 pub fn refusal(alloc: Global, path: &[u8], line: usize, rule: &[u8]) -> Stop
     ensures { TellsLine result (refused path.now line rule.now) }
 {
-    match refused(alloc, path, line, rule) {
+    match refusal_line(alloc, path, line, rule) {
         Ok(told) => Stop::Refused(told),
         Err(_) => Stop::Memory,
     }

@@ -6,7 +6,7 @@ ghost use Rattle.ucdshop_more_core.specs.MissTexts.{misses_of};
 ghost use Rattle.ucdshop_more_core.specs.Run.{conform_ending};
 
 use crate::miss_text::misses_text;
-use crate::printed::conform_summary;
+use crate::summary_lines::conform_summary;
 use crate::trial::Trial;
 use norm_conformance::{Misses, misses};
 use run_endings::{Plan, put_text};

@@ -39,15 +39,15 @@ pub enum DeskMark {
 pub fn mark_of(content: &[u8]) -> Option<DeskMark>
     ensures { result ≡ mark_of content.now }
 {
-    if let Some(text) = behind(b"@ open ", content) {
+    if let Some(text) = behind_word(b"@ open ", content) {
         let editor = decimal_u32(text)?;
         return Some(DeskMark::Open { editor });
     }
-    if let Some(text) = behind(b"@ leave ", content) {
+    if let Some(text) = behind_word(b"@ leave ", content) {
         let editor = decimal_u32(text)?;
         return Some(DeskMark::Leave { editor });
     }
-    match behind(b"@ propose ", content) {
+    match behind_word(b"@ propose ", content) {
         Some(text) => proposal_of(text),
         None => None,
     }
@@ -64,7 +64,7 @@ fn proposal_of(text: &[u8]) -> Option<DeskMark>
 }
 
 /// What stands behind a word with which a line begins; `None` if it does not.
-fn behind<'a>(word: &[u8], content: &'a [u8]) -> Option<&'a [u8]>
+fn behind_word<'a>(word: &[u8], content: &'a [u8]) -> Option<&'a [u8]>
     ensures { MatchOption result (behind word.now content.now ≡ None)
         (λ text. behind word.now content.now ≡ Some text.now) }
 {

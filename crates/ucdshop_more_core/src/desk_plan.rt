@@ -10,9 +10,9 @@ ghost use Rattle.ucdshop_more_core.specs.Turns.{request_turns};
 
 use crate::desk_log::DeskLog;
 use crate::desk_session::hold_session;
-use crate::printed::desk_summary;
 use crate::requests::{Request, Requests};
 use crate::sitting::Sitting;
+use crate::summary_lines::desk_summary;
 use bench_editors::Desk;
 use edit_session::Bench;
 use run_endings::{Output, Plan, put_text};
@@ -36,13 +36,13 @@ pub fn desk_plan<L: Ledger>(
 {
     let Sitting { bench, requests } = sitting;
     let mut desk = Desk::new(alloc, bench);
-    plan_at(alloc, output, &mut desk, requests.as_slice(), steps)
+    plan_of_requests(alloc, output, &mut desk, requests.as_slice(), steps)
 }
 
 /// The files that `desk` writes below a folder, and its summary, for these requests at this desk.
 ///
 /// - `Memory`: memory ran out.
-fn plan_at<L: Ledger>(
+fn plan_of_requests<L: Ledger>(
     alloc: Global,
     output: &[u8],
     desk: &mut Desk,
@@ -55,13 +55,13 @@ fn plan_at<L: Ledger>(
         → HasPlan (desk_ending_from output.now s (request_turns requests.now)) plan) }
 {
     let log = hold_session(alloc, desk, requests, steps)?;
-    plan_after(alloc, output, desk.bench(), &log)
+    plan_of_log(alloc, output, desk.bench(), &log)
 }
 
 /// The files that `desk` writes below a folder, and its summary, by the bench as the requests leave it, and the log.
 ///
 /// - `Memory`: memory ran out.
-fn plan_after(alloc: Global, output: &[u8], bench: &Bench, log: &DeskLog) -> Result<Plan, Memory>
+fn plan_of_log(alloc: Global, output: &[u8], bench: &Bench, log: &DeskLog) -> Result<Plan, Memory>
     ensures { IfOk result (HasPlan
         (desk_ending_by output.now bench.now.current log.now.text log.now.accepted
         log.now.refused)) }

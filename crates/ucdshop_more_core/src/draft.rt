@@ -14,7 +14,7 @@ ghost use Rattle.ucdshop_more_core.specs.Moves.{all_moves, moves_told};
 use crate::beside::{paths_with, piece_refusal, refusal};
 use crate::sections::{Sections, read_sections};
 use edit_session::Bench;
-use run_endings::{Stop, gather};
+use run_endings::{Stop, read_inputs};
 use run_inputs::{file_rule_code, held_at, open_folder, second_file};
 use script_pieces::PieceStop;
 use shelf_io::Shelf;
@@ -55,7 +55,7 @@ pub fn read_draft<S: Shelf, L: Ledger>(
     ensures only_read { OnlyRead (shelf_seen S.Shelf shelf.old shelf.new) }
 {
     let paths = paths_with(alloc, input, script)?;
-    let mut held = gather(alloc, shelf, paths.as_slice())?;
+    let mut held = read_inputs(alloc, shelf, paths.as_slice())?;
     judge_draft(alloc, input, script, &mut held, steps)
 }
 

@@ -8,7 +8,7 @@ ghost use Rattle.ucdshop_more_core.specs.Run.{age_counts, ages_ending, ages_file
 ghost use Rattle.ucdshop_more_core.specs.Printed.{ages_summary};
 
 use crate::chaining::Chained;
-use crate::printed::{AgeCounts, ages_summary};
+use crate::summary_lines::{AgeCounts, ages_summary};
 use run_endings::{Output, Plan, put_text};
 use std::alloc::Global;
 use ucd_model::{Memory, Text};

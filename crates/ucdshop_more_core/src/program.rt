@@ -8,7 +8,7 @@ ghost use Rattle.ucdshop_more_core.specs.Run.{ucdshop_more};
 
 use crate::command::command_of;
 use crate::planning::prepare;
-use crate::printed::USAGE;
+use crate::summary_lines::USAGE;
 use run_endings::{Plan, Status, Stop, end_run};
 use shelf_io::{Shelf, Sink};
 use std::alloc::Global;

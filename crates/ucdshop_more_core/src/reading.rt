@@ -8,7 +8,7 @@ ghost use Rattle.run_inputs.specs.Paths.{sources_in};
 ghost use Rattle.ucdshop_more_core.specs.Chaining.{IsRefused, OpensAs};
 
 use edit_session::Bench;
-use run_endings::{Stop, gather};
+use run_endings::{Stop, read_inputs};
 use run_inputs::{open_folder, source_paths};
 use shelf_io::Shelf;
 use std::alloc::Global;
@@ -35,6 +35,6 @@ pub fn read_folder<S: Shelf, L: Ledger>(
     ensures only_read { OnlyRead (shelf_seen S.Shelf shelf.old shelf.new) }
 {
     let paths = source_paths(alloc, folder)?;
-    let mut held = gather(alloc, shelf, paths.as_slice())?;
+    let mut held = read_inputs(alloc, shelf, paths.as_slice())?;
     open_folder(alloc, folder, &mut held, 0, steps)
 }

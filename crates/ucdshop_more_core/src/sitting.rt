@@ -14,7 +14,7 @@ ghost use Rattle.ucdshop_more_core.specs.Turns.{request_turns, turns_told};
 use crate::beside::{paths_with, piece_refusal, refusal};
 use crate::requests::{Requests, read_requests};
 use edit_session::Bench;
-use run_endings::{Stop, gather};
+use run_endings::{Stop, read_inputs};
 use run_inputs::{file_rule_code, held_at, open_folder, second_file};
 use script_pieces::PieceStop;
 use shelf_io::Shelf;
@@ -56,7 +56,7 @@ pub fn read_sitting<S: Shelf, L: Ledger>(
     ensures only_read { OnlyRead (shelf_seen S.Shelf shelf.old shelf.new) }
 {
     let paths = paths_with(alloc, input, events)?;
-    let mut held = gather(alloc, shelf, paths.as_slice())?;
+    let mut held = read_inputs(alloc, shelf, paths.as_slice())?;
     judge_sitting(alloc, input, events, &mut held, steps)
 }
 

@@ -14,7 +14,7 @@ ghost use Rattle.ucdshop_more_core.specs.Trials.{TellsLine, case_rule_code, case
 use crate::beside::{paths_with, refusal};
 use edit_session::Bench;
 use norm_conformance::{CaseRule, CaseStop, Cases, read_cases};
-use run_endings::{Stop, gather};
+use run_endings::{Stop, read_inputs};
 use run_inputs::{file_rule_code, held_at, open_folder, second_file};
 use shelf_io::Shelf;
 use std::alloc::Global;
@@ -53,7 +53,7 @@ pub fn read_trial<S: Shelf, L: Ledger>(
     ensures only_read { OnlyRead (shelf_seen S.Shelf shelf.old shelf.new) }
 {
     let paths = paths_with(alloc, input, tests)?;
-    let mut held = gather(alloc, shelf, paths.as_slice())?;
+    let mut held = read_inputs(alloc, shelf, paths.as_slice())?;
     judge_trial(alloc, input, tests, &mut held, steps)
 }
 

@@ -9,8 +9,8 @@ ghost use Rattle.ucdshop_more_core.specs.Run.{course_ending, release_files, undo
 ghost use Rattle.ucdshop_more_core.specs.Undoing.{after_move, course_of};
 
 use crate::draft::Drafted;
-use crate::printed::undo_summary;
 use crate::sections::Section;
+use crate::summary_lines::undo_summary;
 use crate::undo_log::UndoLog;
 use crate::undo_session::make_moves;
 use bench_undo::History;
@@ -37,13 +37,13 @@ pub fn undo_plan<L: Ledger>(
 {
     let Drafted { bench, sections } = drafted;
     let mut history = History::new(alloc, bench, depth);
-    plan_with(alloc, output, &mut history, sections.as_slice(), steps)
+    plan_of_sections(alloc, output, &mut history, sections.as_slice(), steps)
 }
 
 /// The files that `undo` writes below a folder, and its summary, for these sections on this history.
 ///
 /// - `Memory`: memory ran out.
-fn plan_with<L: Ledger>(
+fn plan_of_sections<L: Ledger>(
     alloc: Global,
     output: &[u8],
     history: &mut History,
@@ -58,13 +58,13 @@ fn plan_with<L: Ledger>(
         (all_moves sections.now)))) }
 {
     let log = make_moves(alloc, history, sections, steps)?;
-    plan_after(alloc, output, history, &log)
+    plan_of_log(alloc, output, history, &log)
 }
 
 /// The files that `undo` writes below a folder, and its summary, by the history as the sections leave it, and the log.
 ///
 /// - `Memory`: memory ran out.
-fn plan_after(
+fn plan_of_log(
     alloc: Global,
     output: &[u8],
     history: &History,

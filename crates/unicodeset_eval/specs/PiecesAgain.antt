@@ -17,11 +17,11 @@ use Rattle.ucd_model.specs.CutLemmas.{cut_push, cut_within, point_count-is}
 use Rattle.ucd_model.specs.Cuts.{IsCut}
 use Rattle.ucd_model.specs.Records.{Record}
 use Rattle.unicodeset_eval.specs.RecordPieces.{AreCut, AreCutTo, PieceValue, piece_at, piece_value, unfolded, unfolded_of, values_record}
-use Rattle.unicodeset_eval.specs.declared.record_pieces.Piece.{Piece}
+use Rattle.unicodeset_eval.specs.declared.record_pieces.RecordRun.{RecordRun}
 use Rattle.unicodeset_eval.specs.declared.record_pieces.PropertyValues.{PropertyValues}
 use Rattle.unicodeset_eval.specs.declared.record_pieces.RecordPieces.{RecordPieces}
 
-abbrev pub end_before : List Piece → ℕ
+abbrev pub end_before : List RecordRun → ℕ
 end_before [] = point_count
 end_before (p ∷ rest) = p.first
 
@@ -36,7 +36,7 @@ pub record IsAlikeIn (R : ℕ → Record) (lo end : ℕ) (v : PropertyValues) : 
 pub record IsAlikeBut (R : ℕ → Record) (p : ℕ → Bool) (lo end : ℕ) (v : PropertyValues) : Type 0 where
   pub each : (c : ℕ) → lo ≤ c → c < end → p c ≡ false → unfolded (R c) ≡ values_record v
 
-abbrev pub AreLeft : (ℕ → Record) → (ℕ → Bool) → ℕ → List Piece → Type 0
+abbrev pub AreLeft : (ℕ → Record) → (ℕ → Bool) → ℕ → List RecordRun → Type 0
 AreLeft R p lo [] = lo ≡ point_count
 AreLeft R p lo (q ∷ rest) = (q.first ≡ lo) × (lo ≤ end_before rest) × (end_before rest ≤ 1114112) × IsAlikeBut R p lo (end_before rest) q.values × AreLeft R p (end_before rest) rest
 
@@ -47,14 +47,14 @@ pub record ArePiecesBut (pieces : RecordPieces) (p : ℕ → Bool) (R : ℕ → 
 
 -- ---- what is left
 
-ends_at : (R : ℕ → Record) (lo : ℕ) (rest : List Piece) (spans : List Bounds) → IsCut (unfolded_of R) lo point_count spans → map piece_value rest ≡ map (piece_at R) spans → end_before rest ≡ lo
+ends_at : (R : ℕ → Record) (lo : ℕ) (rest : List RecordRun) (spans : List Bounds) → IsCut (unfolded_of R) lo point_count spans → map piece_value rest ≡ map (piece_at R) spans → end_before rest ≡ lo
 ends_at R lo [] [] cut are = sym cut
 ends_at R lo [] (s ∷ spans) cut are = absurd cc
 ends_at R lo (q ∷ rest) [] cut are = absurd cc
 ends_at R lo (q ∷ rest) (s ∷ spans) cut are = let head : piece_value q ≡ piece_at R s = cc in ap (λ (v : PieceValue). v.first) head ∙ cut.0
 
 module _ (S R : ℕ → Record) (p : ℕ → Bool) (same : (c : ℕ) → c < point_count → p c ≡ false → S c ≡ R c) where
-  left_from : (lo : ℕ) (pieces : List Piece) (spans : List Bounds) → IsCut (unfolded_of S) lo point_count spans → map piece_value pieces ≡ map (piece_at S) spans → AreLeft R p lo pieces
+  left_from : (lo : ℕ) (pieces : List RecordRun) (spans : List Bounds) → IsCut (unfolded_of S) lo point_count spans → map piece_value pieces ≡ map (piece_at S) spans → AreLeft R p lo pieces
   left_from lo [] [] cut are = cut
   left_from lo [] (s ∷ spans) cut are = absurd cc
   left_from lo (q ∷ rest) [] cut are = absurd cc
@@ -82,10 +82,10 @@ left_of pieces p R but = left_from but.old R p but.same 0 pieces.pieces.items bu
 
 -- ---- one more piece
 
-pub put_cut : (R : ℕ → Record) (lo end : ℕ) (v : PropertyValues) (old new : List Piece) → lo < end → IsAlikeIn R lo end v → new ≡ old ++ record { first = lo; values = v } ∷ [] → AreCutTo R lo old → AreCutTo R end new
+pub put_cut : (R : ℕ → Record) (lo end : ℕ) (v : PropertyValues) (old new : List RecordRun) → lo < end → IsAlikeIn R lo end v → new ≡ old ++ record { first = lo; values = v } ∷ [] → AreCutTo R lo old → AreCutTo R end new
 put_cut R lo end v old new some alike grown cut =
     let s : Bounds = record { lo = lo; hi = end - 1 } in
-    let q : Piece = record { first = lo; values = v } in
+    let q : RecordRun = record { first = lo; values = v } in
     let here : unfolded (R lo) ≡ values_record v = alike.each lo (omega arith) some in
     let is : piece_value q ≡ piece_at R s = λ j. let w : PieceValue = record { first = lo; values = (sym here) j } in w in
     let ends : (end - 1) + 1 ≡ end = omega (arith, some) in

@@ -30,7 +30,7 @@ use Rattle.property_aliases.specs.declared.property.Test.TheVariants as test
 use Rattle.unicodeset_eval.specs.Found.{passes_test}
 use Rattle.unicodeset_eval.specs.Merges.{emit}
 use Rattle.unicodeset_eval.specs.PieceSets.{piece_edges}
-use Rattle.unicodeset_eval.specs.declared.record_pieces.Piece.{Piece}
+use Rattle.unicodeset_eval.specs.declared.record_pieces.RecordRun.{RecordRun}
 use Rattle.unicodeset_eval.specs.declared.record_pieces.PropertyValues.{PropertyValues}
 use Rattle.unicodeset_eval.specs.declared.record_pieces.RecordPieces.{RecordPieces}
 
@@ -60,18 +60,18 @@ pub record PieceValue : Type 0 where
   pub first : ℕ
   pub values : Record
 
-abbrev pub piece_value : Piece → PieceValue
+abbrev pub piece_value : RecordRun → PieceValue
 piece_value p = record { first = p.first; values = values_record p.values }
 
 abbrev pub piece_at : (ℕ → Record) → Bounds → PieceValue
 piece_at R s = record { first = s.lo; values = unfolded (R s.lo) }
 
-pub record AreCutTo (R : ℕ → Record) (n : ℕ) (pieces : List Piece) : Type 0 where
+pub record AreCutTo (R : ℕ → Record) (n : ℕ) (pieces : List RecordRun) : Type 0 where
   pub spans : List Bounds
   pub cut : IsCut (unfolded_of R) 0 n spans
   pub are : map piece_value pieces ≡ map (piece_at R) spans
 
-abbrev pub AreCut : (ℕ → Record) → List Piece → Type 0
+abbrev pub AreCut : (ℕ → Record) → List RecordRun → Type 0
 AreCut R pieces = AreCutTo R point_count pieces
 
 abbrev pub ArePiecesOf : RecordPieces → (ℕ → Record) → Type 0

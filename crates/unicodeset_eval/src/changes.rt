@@ -49,7 +49,7 @@ impl Change {
             → changed c b change ≡ changed c (changed c b first.now) second.now) }
     {
         let keep = PointSet::joined(alloc, Join::Meet, &first.keep, &second.keep)?;
-        let add = applied(alloc, &first.add, second)?;
+        let add = members_after_change(alloc, &first.add, second)?;
         Ok(Change { keep, add })
     }
 }
@@ -57,7 +57,7 @@ impl Change {
 /// The members behind a change.
 ///
 /// - `Memory`: memory ran out.
-fn applied(alloc: Global, set: &PointSet, change: &Change) -> Result<PointSet, Memory>
+fn members_after_change(alloc: Global, set: &PointSet, change: &Change) -> Result<PointSet, Memory>
     ensures { IfOk result (λ after. (c : ℕ) → has after c ≡ changed c (has set.now c) change.now) }
 {
     let stays = PointSet::joined(alloc, Join::Meet, set, &change.keep)?;
@@ -113,12 +113,12 @@ pub(crate) fn push_change(
 /// The members behind changes that begin with no members.
 ///
 /// - `Memory`: memory ran out.
-pub(crate) fn gathered(alloc: Global, changes: &[Change]) -> Result<PointSet, Memory>
+pub(crate) fn members_of_changes(alloc: Global, changes: &[Change]) -> Result<PointSet, Memory>
     ensures { IfOk result (λ set. (c : ℕ) → has set c ≡ gathered changes.now c) }
 {
     let mut set = PointSet::empty(alloc);
     'changes: for change in changes {
-        set = applied(alloc, &set, change)?;
+        set = members_after_change(alloc, &set, change)?;
     }
     Ok(set)
 }

@@ -13,7 +13,7 @@ ghost use Rattle.unicodeset_eval.specs.declared.stop.NameRule.TheVariants.{S8};
 ghost use Rattle.unicodeset_parser.specs.Trees.{complement, negated_by, steps_of};
 ghost use Rattle.unicodeset_parser.specs.Views.{parts_view, tree_view};
 
-use crate::changes::{Change, gathered, push_change};
+use crate::changes::{Change, members_of_changes, push_change};
 use crate::point_set::PointSet;
 use crate::stop::{EvalStop, NameRule};
 use crate::test_sets::TestSets;
@@ -150,7 +150,7 @@ fn bracket<T: TestSets>(
         (steps_of (parts_view parts.now))) }
 {
     match changes_of(alloc, index, aliases, parts) {
-        Ok(changes) => Ok(gathered(alloc, changes.as_slice())?),
+        Ok(changes) => Ok(members_of_changes(alloc, changes.as_slice())?),
         Err(stop) => Err(stop),
     }
 }

@@ -2,7 +2,7 @@
 
 ghost use Rattle.unicodeset_eval.specs.RecordPieces.{AreCut};
 
-use crate::record_pieces::Piece;
+use crate::record_pieces::RecordRun;
 use crate::row_sets::RowSets;
 use ucd_model::Records;
 
@@ -12,7 +12,7 @@ use ucd_model::Records;
 #[derive(Drop)]
 pub struct SetIndex<'b, B: Records> {
     pub(crate) bench: &'b B,
-    pub(crate) pieces: &'b [Piece],
+    pub(crate) pieces: &'b [RecordRun],
     pub(crate) rows: &'b RowSets,
     ghost cut: { ∥ AreCut (B.record_of bench.now) pieces.now ∥₁ },
 }

@@ -14,7 +14,7 @@ ghost use Rattle.unicodeset_eval.specs.Numbers.{bucket};
 ghost use Rattle.unicodeset_eval.specs.Tests.{is_numbered};
 
 use crate::numbers::{buckets, push_at};
-use layered_table::{Layer, pieces};
+use layered_table::{Layer, disjoint_layers};
 use property_aliases::{FileValues, NumberedRow};
 use std::alloc::Global;
 use ucd_model::{Memory, Spans};
@@ -79,7 +79,7 @@ pub(crate) fn layered_spans(alloc: Global, values: &FileValues) -> Result<Vec<Sp
         ≡ is_numbered (numbered default rows) i (value_at rows default c)) }
 {
     let layers = layers_of(alloc, values)?;
-    let pieces = pieces(alloc, 0, layers.as_slice())?;
+    let pieces = disjoint_layers(alloc, 0, layers.as_slice())?;
     let mut buckets = buckets(alloc, values.count())?;
     push_pieces(&mut buckets, pieces.as_slice())?;
     Ok(buckets)

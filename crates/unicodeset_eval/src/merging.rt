@@ -32,7 +32,7 @@ fn least(first: &[u32], second: &[u32]) -> Option<u32>
 }
 
 /// Whether what is behind an edge is in.
-fn turned(at: u32, inside: bool, edges: &[u32]) -> bool
+fn is_inside_behind(at: u32, inside: bool, edges: &[u32]) -> bool
     ensures { result ≡ turned at inside edges.now }
 {
     match edges {
@@ -42,7 +42,7 @@ fn turned(at: u32, inside: bool, edges: &[u32]) -> bool
 }
 
 /// The edges behind an edge.
-fn passed(at: u32, edges: &[u32]) -> &[u32]
+fn edges_behind(at: u32, edges: &[u32]) -> &[u32]
     ensures { result.now ≡ passed at edges.now }
 {
     match edges {
@@ -54,7 +54,12 @@ fn passed(at: u32, edges: &[u32]) -> &[u32]
 /// Puts an edge at the end if membership turns at it.
 ///
 /// - `Memory`: memory ran out. The edges stay as they were.
-pub(crate) fn emit(edges: &mut Vec<u32>, before: bool, after: bool, at: u32) -> Result<(), Memory>
+pub(crate) fn put_edge_if_turned(
+    edges: &mut Vec<u32>,
+    before: bool,
+    after: bool,
+    at: u32,
+) -> Result<(), Memory>
     ensures ok { OnOk result (edges.new.items ≡ edges.old.items ++ emit before after at []) }
     ensures err { OnErr result (edges.new.items ≡ edges.old.items) }
 {
@@ -82,16 +87,16 @@ pub(crate) fn merge(
     let (mut a, mut left) = (first_starts, first);
     let (mut b, mut right) = (second_starts, second);
     'edges: while let Some(at) = least(left, right) {
-        let next_a = turned(at, a, left);
-        let next_b = turned(at, b, right);
-        emit(
+        let next_a = is_inside_behind(at, a, left);
+        let next_b = is_inside_behind(at, b, right);
+        put_edge_if_turned(
             &mut edges,
             holds(join, a, b),
             holds(join, next_a, next_b),
             at,
         )?;
-        left = passed(at, left);
-        right = passed(at, right);
+        left = edges_behind(at, left);
+        right = edges_behind(at, right);
         a = next_a;
         b = next_b;
     }

@@ -6,7 +6,7 @@ ghost use Rattle.ucd_model.specs.Records.{Record};
 ghost use Rattle.unicodeset_eval.specs.PiecesAgain.{AreLeft, ArePiecesBut, IsAlikeBut, IsAlikeIn, NoneBefore, end_before};
 ghost use Rattle.unicodeset_eval.specs.RecordPieces.{AreCut, AreCutTo, ArePiecesOf};
 
-use crate::record_pieces::{Piece, PropertyValues, RecordPieces, values_of};
+use crate::record_pieces::{PropertyValues, RecordPieces, RecordRun, values_of};
 use number_sets::KeySet;
 use std::alloc::Global;
 use ucd_model::{Memory, Point, Records, point_count};
@@ -16,7 +16,7 @@ impl RecordPieces {
     /// the records of these are looked up; each is a piece of its own then, and cuts the one that it stands in.
     ///
     /// - `Memory`: memory ran out.
-    pub fn again<B: Records>(
+    pub fn renewed<B: Records>(
         self,
         alloc: Global,
         bench: &B,
@@ -37,9 +37,9 @@ impl RecordPieces {
 fn pieces_again<B: Records>(
     alloc: Global,
     bench: &B,
-    pieces: &[Piece],
+    pieces: &[RecordRun],
     changed: &KeySet,
-) -> Result<Vec<Piece>, Memory>
+) -> Result<Vec<RecordRun>, Memory>
     requires { AreLeft (B.record_of bench.now) (has changed.now) 0 pieces.now }
     ensures { IfOk result (λ made. AreCut (B.record_of bench.now) made.items) }
 {
@@ -48,14 +48,14 @@ fn pieces_again<B: Records>(
     let mut next = next_changed(changed, 0);
     'pieces: while let Some((piece, behind)) = left.split_first() {
         let end = end_before(behind);
-        next = put_again(bench, piece, end, changed, next, &mut made)?;
+        next = put_renewed_piece(bench, piece, end, changed, next, &mut made)?;
         left = behind;
     }
     Ok(made)
 }
 
 /// Where the piece before these ends: one past its last code point.
-fn end_before(behind: &[Piece]) -> u32
+fn end_before(behind: &[RecordRun]) -> u32
     ensures { result ≡ end_before behind.now }
 {
     match behind {
@@ -79,13 +79,13 @@ fn next_changed(changed: &KeySet, start: u32) -> u32
 /// the next one behind the piece.
 ///
 /// - `Memory`: memory ran out. Some may be put.
-fn put_again<B: Records>(
+fn put_renewed_piece<B: Records>(
     bench: &B,
-    piece: &Piece,
+    piece: &RecordRun,
     end: u32,
     changed: &KeySet,
     next: u32,
-    made: &mut Vec<Piece>,
+    made: &mut Vec<RecordRun>,
 ) -> Result<u32, Memory>
     requires ordered { piece.now.first ≤ end }
     requires within { end ≤ 1114112 }
@@ -115,14 +115,14 @@ pub(crate) fn put_alike(
     from: u32,
     end: u32,
     values: PropertyValues,
-    made: &mut Vec<Piece>,
+    made: &mut Vec<RecordRun>,
 ) -> Result<(), Memory>
     requires { from ≤ end }
     ensures { OnOk result ((R : ℕ → Record) → IsAlikeIn R from end values
         → AreCutTo R from made.old.items → AreCutTo R end made.new.items) }
 {
     if from < end {
-        made.push(Piece {
+        made.push(RecordRun {
             first: from,
             values,
         })?;
@@ -131,13 +131,13 @@ pub(crate) fn put_alike(
 }
 
 /// Puts a code point as a piece, with the values of its record.
-fn put_changed<B: Records>(bench: &B, point: u32, made: &mut Vec<Piece>) -> Result<(), Memory>
+fn put_changed<B: Records>(bench: &B, point: u32, made: &mut Vec<RecordRun>) -> Result<(), Memory>
     requires inside { point < 1114112 }
     requires before { AreCutTo (B.record_of bench.now) point made.old.items }
     ensures { OnOk result (AreCutTo (B.record_of bench.now) (point + 1) made.new.items) }
 {
     let values = values_of(bench.record(Point::at(point)));
-    made.push(Piece {
+    made.push(RecordRun {
         first: point,
         values,
     })?;

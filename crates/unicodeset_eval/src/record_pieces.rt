@@ -29,7 +29,7 @@ pub(crate) struct PropertyValues {
 
 /// Code points that follow one another, with records that no test tells apart.
 #[derive(Clone, Copy)]
-pub(crate) struct Piece {
+pub(crate) struct RecordRun {
     /// The number of the first one.
     pub(crate) first: u32,
     /// The values of each of them.
@@ -40,12 +40,12 @@ pub(crate) struct Piece {
 /// records do.
 #[derive(Drop)]
 pub struct RecordPieces {
-    pub(crate) pieces: Vec<Piece>,
+    pub(crate) pieces: Vec<RecordRun>,
 }
 
 impl RecordPieces {
     /// The pieces of a bench, by spans of equal records that follow one another over all code points, as
-    /// [`equal_pieces`](ucd_model::equal_pieces) gives them. Each record is looked up once. Spans next to each other whose records
+    /// [`equal_record_spans`](ucd_model::equal_record_spans) gives them. Each record is looked up once. Spans next to each other whose records
     /// differ in nothing that tests ask for are one piece.
     ///
     /// - `Memory`: memory ran out.
@@ -113,7 +113,7 @@ fn have_same_checks(a: &PropertyValues, b: &PropertyValues) -> bool
 /// The pieces of spans of equal records, of which neighbours that no test tells apart are joined. Each record is looked up once.
 ///
 /// - `Memory`: memory ran out.
-fn pieces_of<B: Records>(alloc: Global, bench: &B, spans: &[Span]) -> Result<Vec<Piece>, Memory>
+fn pieces_of<B: Records>(alloc: Global, bench: &B, spans: &[Span]) -> Result<Vec<RecordRun>, Memory>
     requires { IsCut (B.record_of bench.now) 0 point_count spans.now }
     ensures { IfOk result (λ pieces. AreCut (B.record_of bench.now) pieces.items) }
 {

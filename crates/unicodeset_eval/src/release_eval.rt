@@ -21,7 +21,7 @@ use crate::stop::EvalStop;
 use property_aliases::{Aliases, ValueNumbers};
 use release_rows::Release;
 use std::alloc::Global;
-use ucd_model::{Records, Spans, equal_pieces};
+use ucd_model::{Records, Spans, equal_record_spans};
 use unicodeset_parser::Expr;
 
 /// The members of a UnicodeSet as maximal ascending spans, by the rows of a release now and by what is derived from
@@ -98,7 +98,7 @@ fn eval_by<B: Records>(
         (release_tests (B.record_of bench.now) (rows_now release.now)) point_count
         (tree_view expr.now)) }
 {
-    let spans = equal_pieces(alloc, bench)?;
+    let spans = equal_record_spans(alloc, bench)?;
     let pieces = RecordPieces::of(alloc, bench, spans.as_slice())?;
     let index = SetIndex::of(bench, &pieces, release, rows);
     eval_over(alloc, &index, aliases, expr)

@@ -68,7 +68,7 @@ impl RowSets {
     /// files have others. Only the sets of edited files are made.
     ///
     /// - `Memory`: memory ran out.
-    pub fn again(
+    pub fn renewed(
         self,
         alloc: Global,
         release: &Release,

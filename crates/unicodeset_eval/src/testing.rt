@@ -10,9 +10,9 @@ ghost use Rattle.unicodeset_eval.specs.RecordPieces.{SaysAs, at_first, piece_tur
 ghost use Rattle.unicodeset_eval.specs.Tests.{check_of, group_categories};
 
 use crate::index::SetIndex;
-use crate::merging::emit;
+use crate::merging::put_edge_if_turned;
 use crate::point_set::PointSet;
-use crate::record_pieces::{Piece, PropertyValues};
+use crate::record_pieces::{PropertyValues, RecordRun};
 use property_aliases::{Group, Test};
 use std::alloc::Global;
 use ucd_model::{Category, Form, Memory, Quick, Records, point_count};
@@ -89,7 +89,7 @@ fn passes_test(test: Test, shown: &PropertyValues) -> bool
 }
 
 /// What a test says of the first piece.
-fn at_first(test: Test, pieces: &[Piece]) -> bool
+fn passes_at_zero(test: Test, pieces: &[RecordRun]) -> bool
     ensures { result ≡ at_first (passes_test test) (map piece_value pieces.now) }
 {
     match pieces {
@@ -101,9 +101,9 @@ fn at_first(test: Test, pieces: &[Piece]) -> bool
 /// The numbers at which what `says` says turns, over pieces of equal records; `has_zero` is what it says of the code point 0.
 ///
 /// - `Memory`: memory ran out.
-fn turns<F: Fn(&PropertyValues) -> bool>(
+fn edges_of_test<F: Fn(&PropertyValues) -> bool>(
     alloc: Global,
-    pieces: &[Piece],
+    pieces: &[RecordRun],
     has_zero: bool,
     says: F,
 ) -> Result<Vec<u32>, Memory>
@@ -115,10 +115,10 @@ fn turns<F: Fn(&PropertyValues) -> bool>(
     let mut inside = has_zero;
     'pieces: for piece in pieces {
         let next = says(&piece.values);
-        emit(&mut edges, inside, next, piece.first)?;
+        put_edge_if_turned(&mut edges, inside, next, piece.first)?;
         inside = next;
     }
-    emit(&mut edges, inside, false, point_count())?;
+    put_edge_if_turned(&mut edges, inside, false, point_count())?;
     Ok(edges)
 }
 
@@ -128,7 +128,7 @@ fn turns<F: Fn(&PropertyValues) -> bool>(
 /// - `Memory`: memory ran out.
 fn test_turns(
     alloc: Global,
-    pieces: &[Piece],
+    pieces: &[RecordRun],
     test: Test,
     has_zero: bool,
 ) -> Result<Vec<u32>, Memory>
@@ -136,17 +136,17 @@ fn test_turns(
         ≡ piece_turns point_count (passes_test test) has_zero (map piece_value pieces.now)) }
 {
     match test {
-        Test::Category(category) => turns(alloc, pieces, has_zero, |shown| {
+        Test::Category(category) => edges_of_test(alloc, pieces, has_zero, |shown| {
             category.place() == shown.category.place()
         }),
-        Test::Class(class) => turns(alloc, pieces, has_zero, |shown| class == shown.class),
-        Test::Decomposition(kind) => turns(alloc, pieces, has_zero, |shown| {
+        Test::Class(class) => edges_of_test(alloc, pieces, has_zero, |shown| class == shown.class),
+        Test::Decomposition(kind) => edges_of_test(alloc, pieces, has_zero, |shown| {
             kind.place() == shown.kind.place()
         }),
-        Test::Core(core, wanted) => turns(alloc, pieces, has_zero, |shown| {
+        Test::Core(core, wanted) => edges_of_test(alloc, pieces, has_zero, |shown| {
             shown.core.has(core) == wanted
         }),
-        _ => turns(alloc, pieces, has_zero, |shown| passes_test(test, shown)),
+        _ => edges_of_test(alloc, pieces, has_zero, |shown| passes_test(test, shown)),
     }
 }
 
@@ -160,7 +160,7 @@ impl<'b, B: Records> SetIndex<'b, B> {
             && passes_test test (B.record_of self.now.bench.now c))) }
     {
         let pieces = self.pieces;
-        let has_zero = at_first(test, pieces);
+        let has_zero = passes_at_zero(test, pieces);
         let edges = test_turns(alloc, pieces, test, has_zero)?;
         Ok(PointSet::of_edges(has_zero, edges))
     }

@@ -10,8 +10,8 @@ use Rattle.unicodeset_parser.specs.Trees.{Tree, named}
 use Rattle.unicodeset_parser.specs.declared.expr.Join.{Join}
 use Rattle.unicodeset_parser.specs.declared.expr.Join.TheVariants.{Union}
 use Rattle.unicodeset_parser.specs.declared.stop.SetRule.TheVariants.{S2, S3, S4, S5, S6, S7}
-use Rattle.unicodeset_parser.specs.declared.token.Wrong.{Wrong}
-use Rattle.unicodeset_parser.specs.declared.token.Wrong.TheVariants.{Unclosed, RefusedName, BadEscape, CharacterName, Special, Cut, Other}
+use Rattle.unicodeset_parser.specs.declared.token.BadToken.{BadToken}
+use Rattle.unicodeset_parser.specs.declared.token.BadToken.TheVariants.{Unclosed, RefusedName, BadEscape, CharacterName, Special, Cut, Other}
 use Rattle.unicodeset_parser.proofs.Complete.{runs}
 use Rattle.unicodeset_parser.proofs.Stops.{Reaches, AtToken, AtEnd, begins, no_text, stops, end_place}
 
@@ -47,7 +47,7 @@ module _ (e : ℕ) (x : Fault) (front : List Token) where
   opened_named set at negated s false h = inl (set, is (fault S6 at) h)
 
   module _ (set : MaySet front) (none : ¬ (MayLetter front)) where
-    set_wrong : (at : ℕ) (w : Wrong) → stopped (m.set_fault e at w) ≡ stopped x → Names e front (placed at (wrong w)) x
+    set_wrong : (at : ℕ) (w : BadToken) → stopped (m.set_fault e at w) ≡ stopped x → Names e front (placed at (wrong w)) x
     set_wrong at Unclosed h = inl (set, is (fault S2 e) h)
     set_wrong at Cut h = inl (inl set, is (fault S2 e) h)
     set_wrong at RefusedName h = inl (set, is (fault S7 at) h)
@@ -75,7 +75,7 @@ module _ (e : ℕ) (x : Fault) (front : List Token) where
     operand_named j f a at (letter c) h = inr (none, is (fault S3 at) h)
 
   module _ (set : MaySet front) (some : MayLetter front) where
-    element_wrong : (at : ℕ) (w : Wrong) → stopped (m.element_fault e at w) ≡ stopped x → Names e front (placed at (wrong w)) x
+    element_wrong : (at : ℕ) (w : BadToken) → stopped (m.element_fault e at w) ≡ stopped x → Names e front (placed at (wrong w)) x
     element_wrong at Unclosed h = inl (set, is (fault S2 e) h)
     element_wrong at Cut h = inl (inl set, is (fault S2 e) h)
     element_wrong at RefusedName h = inl (set, is (fault S7 at) h)
@@ -121,7 +121,7 @@ module _ (e : ℕ) (x : Fault) (front : List Token) where
     letter_named c f a at (wrong w) h = element_named (put Union (range_of c c) f) a at (wrong w) h
 
   module _ (no_set : ¬ (MaySet front)) (some : MayLetter front) where
-    range_wrong : (at : ℕ) (w : Wrong) → stopped (m.range_fault e at w) ≡ stopped x → Names e front (placed at (wrong w)) x
+    range_wrong : (at : ℕ) (w : BadToken) → stopped (m.range_fault e at w) ≡ stopped x → Names e front (placed at (wrong w)) x
     range_wrong at Unclosed h = inr (no_set, is (fault S3 at) h)
     range_wrong at Cut h = inl (inr some, is (fault S2 e) h)
     range_wrong at RefusedName h = inr (no_set, is (fault S3 at) h)
@@ -148,7 +148,7 @@ module _ (e : ℕ) (x : Fault) (front : List Token) where
     neither (inl set) = no_set set
     neither (inr some) = none some
 
-    late_wrong : (at : ℕ) (w : Wrong) → stopped (m.late_fault at w) ≡ stopped x → Names e front (placed at (wrong w)) x
+    late_wrong : (at : ℕ) (w : BadToken) → stopped (m.late_fault at w) ≡ stopped x → Names e front (placed at (wrong w)) x
     late_wrong at Unclosed h = inr (no_set, is (fault S3 at) h)
     late_wrong at Cut h = inr (neither, is (fault S3 at) h)
     late_wrong at RefusedName h = inr (no_set, is (fault S3 at) h)

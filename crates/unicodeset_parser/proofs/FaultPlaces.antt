@@ -4,7 +4,7 @@ use Rattle.unicodeset_parser.specs.FaultNames.{Chooses, Names, NamedIn}
 use Rattle.unicodeset_parser.specs.Laws.{StopsAt, StopsBehind, FirstFault, FaultsAreFirst, place_of}
 use Rattle.unicodeset_parser.specs.Machine.{Fault}
 use Rattle.unicodeset_parser.specs.Tokens.{Token, placed, open_set, close, dash, meet, letter, property, wrong}
-use Rattle.unicodeset_parser.specs.declared.token.Wrong.TheVariants.{Unclosed, RefusedName, BadEscape, CharacterName, Special, Cut, Other}
+use Rattle.unicodeset_parser.specs.declared.token.BadToken.TheVariants.{Unclosed, RefusedName, BadEscape, CharacterName, Special, Cut, Other}
 use Rattle.unicodeset_parser.proofs.FaultNames.{faults_are_named}
 
 module _ (e : ℕ) (front : List Token) (f : Fault) where

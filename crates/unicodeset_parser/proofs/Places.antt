@@ -15,7 +15,7 @@ use Rattle.unicodeset_parser.specs.Properties.{not_equal, is_equals, property_at
 use Rattle.unicodeset_parser.specs.Tokens.{Sign, Token, placed, Lexed, sized, open_set, close, dash, meet, letter, property, wrong}
 use Rattle.unicodeset_parser.specs.TreeNames.{Name, name_place, tree_names, step_names, PlacesAscend}
 use Rattle.unicodeset_parser.specs.Trees.{Tree, named, valued, Step, steps_of, negated_by, bracket_of}
-use Rattle.unicodeset_parser.specs.declared.token.Wrong.TheVariants.{RefusedName}
+use Rattle.unicodeset_parser.specs.declared.token.BadToken.TheVariants.{RefusedName}
 use Rattle.unicodeset_parser.proofs.Sound.{sound}
 use Rattle.unicodeset_parser.proofs.Written.{read_is}
 

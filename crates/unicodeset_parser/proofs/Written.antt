@@ -22,7 +22,7 @@ use Rattle.unicodeset_parser.specs.Properties.{not_equal, is_equals, property_at
 use Rattle.unicodeset_parser.specs.Spelling.{holds_brace, joined_name, closing_of, IsProperty, IsSetTree, a_name, a_value, no_name, no_value, a_bracket, no_bracket, AreSteps, none, united, met, taken, spelled, ReadTreesCanBeWritten, ReadTreesAreText, ReadTreesReadBack}
 use Rattle.unicodeset_parser.specs.Tokens.{Sign, Token, placed, Lexed, sized, dash, letter, property, wrong}
 use Rattle.unicodeset_parser.specs.Trees.{Tree, named, valued, bracket, Step, steps_of, negated_by, bracket_of}
-use Rattle.unicodeset_parser.specs.declared.token.Wrong.TheVariants.{RefusedName}
+use Rattle.unicodeset_parser.specs.declared.token.BadToken.TheVariants.{RefusedName}
 use Rattle.unicodeset_parser.proofs.Closings.{brace_behind_name, no_brace_before, colon_front, front_plain}
 use Rattle.unicodeset_parser.proofs.ReadBack.{texts_read_back}
 use Rattle.unicodeset_parser.proofs.Sound.{sound}

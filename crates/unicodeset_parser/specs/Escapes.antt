@@ -12,7 +12,7 @@ use Rattle.std.specs.List.{position_or_len}
 use Rattle.ucd_points.specs.Fields.{hex_number, if_point}
 use Rattle.unicodeset_parser.specs.Bytes.{begins_with}
 use Rattle.unicodeset_parser.specs.Tokens.{Lexed, sized, letter, wrong}
-use Rattle.unicodeset_parser.specs.declared.token.Wrong.TheVariants.{BadEscape}
+use Rattle.unicodeset_parser.specs.declared.token.BadToken.TheVariants.{BadEscape}
 
 abbrev pub bad_escape : Lexed
 bad_escape = sized 1 (wrong BadEscape)

@@ -19,7 +19,7 @@ use Rattle.unicodeset_parser.specs.Machine.{Fault, fault, before, run}
 use Rattle.unicodeset_parser.specs.Tokens.{Token, placed, open_set, letter, property, wrong}
 use Rattle.unicodeset_parser.specs.Trees.{Tree}
 use Rattle.unicodeset_parser.specs.declared.stop.SetRule.TheVariants.{S2, S3, S4, S5, S6, S7}
-use Rattle.unicodeset_parser.specs.declared.token.Wrong.TheVariants.{Unclosed, RefusedName, BadEscape, CharacterName, Special, Cut}
+use Rattle.unicodeset_parser.specs.declared.token.BadToken.TheVariants.{Unclosed, RefusedName, BadEscape, CharacterName, Special, Cut}
 
 abbrev pub MaySet : List Token → Type 0
 MaySet ps = (t : Tree) × Begins (ps ++ placed 0 (property t) ∷ [])

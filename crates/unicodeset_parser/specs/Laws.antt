@@ -14,7 +14,7 @@ use Rattle.unicodeset_parser.specs.Machine.{Fault, fault, before, run}
 use Rattle.unicodeset_parser.specs.Tokens.{Token, placed, wrong}
 use Rattle.unicodeset_parser.specs.Trees.{Tree}
 use Rattle.unicodeset_parser.specs.declared.stop.SetRule.TheVariants.{S2}
-use Rattle.unicodeset_parser.specs.declared.token.Wrong.TheVariants.{Unclosed, Cut}
+use Rattle.unicodeset_parser.specs.declared.token.BadToken.TheVariants.{Unclosed, Cut}
 
 abbrev pub ReadsExactly : Type 0
 ReadsExactly = (e : ℕ) (ps : List Token) (t : Tree) → (run e before ps ≡ Ok t) ↔ IsText ps t

@@ -11,7 +11,7 @@ use Rattle.unicodeset_parser.specs.Bytes.{begins_with}
 use Rattle.unicodeset_parser.specs.Escapes.{any_digits, fixed_digits, plain_escape}
 use Rattle.unicodeset_parser.specs.Properties.{property_at, braces}
 use Rattle.unicodeset_parser.specs.Tokens.{Sign, open_set, close, dash, meet, letter, wrong, Token, placed, Lexed, sized}
-use Rattle.unicodeset_parser.specs.declared.token.Wrong.TheVariants.{CharacterName, Special, Cut, Other}
+use Rattle.unicodeset_parser.specs.declared.token.BadToken.TheVariants.{CharacterName, Special, Cut, Other}
 
 -- behind `[:`
 abbrev pub colon : ℕ → List ℕ → Lexed

@@ -19,8 +19,8 @@ use Rattle.unicodeset_parser.specs.declared.expr.Join.{Join}
 use Rattle.unicodeset_parser.specs.declared.expr.Join.TheVariants.{Union, Meet, Minus}
 use Rattle.unicodeset_parser.specs.declared.stop.SetRule.{SetRule}
 use Rattle.unicodeset_parser.specs.declared.stop.SetRule.TheVariants.{S2, S3, S4, S5, S6, S7}
-use Rattle.unicodeset_parser.specs.declared.token.Wrong.{Wrong}
-use Rattle.unicodeset_parser.specs.declared.token.Wrong.TheVariants.{Unclosed, RefusedName, BadEscape, CharacterName, Special, Cut, Other}
+use Rattle.unicodeset_parser.specs.declared.token.BadToken.{BadToken}
+use Rattle.unicodeset_parser.specs.declared.token.BadToken.TheVariants.{Unclosed, RefusedName, BadEscape, CharacterName, Special, Cut, Other}
 
 pub record Fault : Type 0 where
   pub rule : SetRule
@@ -50,7 +50,7 @@ pub data State : Type 0 where
 -- ---- the rule that a wrong token breaks, by the place where it stands; e is the length of the text
 
 -- where a set is due: at the beginning, and behind an operator
-abbrev pub set_fault : ℕ → ℕ → Wrong → Fault
+abbrev pub set_fault : ℕ → ℕ → BadToken → Fault
 set_fault e at Unclosed = fault S2 e
 set_fault e at Cut = fault S2 e
 set_fault e at RefusedName = fault S7 at
@@ -60,19 +60,19 @@ set_fault e at Special = fault S3 at
 set_fault e at Other = fault S3 at
 
 -- where an element is due
-abbrev pub element_fault : ℕ → ℕ → Wrong → Fault
+abbrev pub element_fault : ℕ → ℕ → BadToken → Fault
 element_fault e at Special = fault S7 at
 element_fault e at w = set_fault e at w
 
 -- where the last character of a range is due: no set may stand here, so that no name is looked at
-abbrev pub range_fault : ℕ → ℕ → Wrong → Fault
+abbrev pub range_fault : ℕ → ℕ → BadToken → Fault
 range_fault e at Cut = fault S2 e
 range_fault e at CharacterName = fault S7 at
 range_fault e at BadEscape = fault S5 at
 range_fault e at w = fault S3 at
 
 -- behind the whole set, where nothing may stand, so that no name is looked at
-abbrev pub late_fault : ℕ → Wrong → Fault
+abbrev pub late_fault : ℕ → BadToken → Fault
 late_fault at CharacterName = fault S7 at
 late_fault at BadEscape = fault S5 at
 late_fault at w = fault S3 at

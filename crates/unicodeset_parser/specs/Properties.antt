@@ -11,7 +11,7 @@ use Rattle.unicodeset_parser.specs.Bytes.{begins_with, found_at}
 use Rattle.unicodeset_parser.specs.Escapes.{bad_escape}
 use Rattle.unicodeset_parser.specs.Trees.{named, valued, negated_by}
 use Rattle.unicodeset_parser.specs.Tokens.{Sign, Lexed, sized, property, wrong}
-use Rattle.unicodeset_parser.specs.declared.token.Wrong.TheVariants.{Unclosed, RefusedName}
+use Rattle.unicodeset_parser.specs.declared.token.BadToken.TheVariants.{Unclosed, RefusedName}
 
 abbrev pub not_equal : List ℕ
 not_equal = 226 ∷ 137 ∷ 160 ∷ []

@@ -11,7 +11,7 @@
 -- Lexed              a token and how many bytes it takes; of what is wrong the size tells nothing
 use Rattle.std.specs.Prelude.{ℕ, Bool}
 use Rattle.unicodeset_parser.specs.Trees.{Tree}
-use Rattle.unicodeset_parser.specs.declared.token.Wrong.{Wrong}
+use Rattle.unicodeset_parser.specs.declared.token.BadToken.{BadToken}
 
 pub data Sign : Type 0 where
   open_set : Bool → Sign
@@ -20,7 +20,7 @@ pub data Sign : Type 0 where
   meet : Sign
   letter : ℕ → Sign
   property : Tree → Sign
-  wrong : Wrong → Sign
+  wrong : BadToken → Sign
 
 pub data Token : Type 0 where
   placed : ℕ → Sign → Token

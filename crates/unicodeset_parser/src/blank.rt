@@ -3,7 +3,7 @@
 ghost use Rattle.std.specs.Prelude.{◌≡◌, ◌≤◌, length};
 ghost use Rattle.unicodeset_parser.specs.Blanks.{is_white, blank_size, closes};
 
-use crate::bytes::{begins_with, behind, first_char};
+use crate::bytes::{begins_with, bytes_behind, first_char};
 
 /// Whether a character is white space.
 #[inline]
@@ -38,7 +38,7 @@ pub(crate) fn closes(text: &[u8]) -> bool
     let mut rest = text;
     let mut blanks = blank_size(rest);
     'blanks: while blanks > 0 {
-        rest = behind(rest, blanks);
+        rest = bytes_behind(rest, blanks);
         blanks = blank_size(rest);
     }
     begins_with(rest, b']')

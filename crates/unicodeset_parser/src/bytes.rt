@@ -19,7 +19,7 @@ pub(crate) fn begins_with(text: &[u8], byte: u8) -> bool
 
 /// What stands behind so many bytes; nothing if there are fewer.
 #[inline]
-pub(crate) fn behind(text: &[u8], count: usize) -> &[u8]
+pub(crate) fn bytes_behind(text: &[u8], count: usize) -> &[u8]
     ensures { result.now ≡ drop count text.now }
 {
     if count < text.len() {

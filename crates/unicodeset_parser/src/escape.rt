@@ -5,8 +5,8 @@ ghost use Rattle.unicodeset_parser.specs.Escapes.{bad_escape, spelled, fixed_dig
 ghost use Rattle.unicodeset_parser.specs.TokenViews.{lexeme_view};
 ghost use Rattle.ucd_points.specs.Fields.{if_point};
 
-use crate::bytes::{begins_with, behind};
-use crate::token::{Lexeme, Token, Wrong};
+use crate::bytes::{begins_with, bytes_behind};
+use crate::token::{BadToken, Lexeme, Token};
 use ucd_lines::{first_at, hex_number};
 use ucd_points::Point;
 
@@ -15,13 +15,13 @@ pub(crate) fn bad_escape() -> Lexeme
     ensures { lexeme_view result ≡ bad_escape }
 {
     Lexeme {
-        token: Token::Wrong(Wrong::BadEscape),
+        token: Token::Wrong(BadToken::BadEscape),
         size: 1,
     }
 }
 
 /// The letter of a number that digits write, with the size of its escape.
-pub(crate) fn spelled(size: usize, number: Option<u32>) -> Lexeme
+pub(crate) fn letter_of_escape(size: usize, number: Option<u32>) -> Lexeme
     ensures { lexeme_view result ≡ spelled size (if_point number) }
 {
     let Some(number) = number else {
@@ -45,7 +45,7 @@ pub(crate) fn fixed_digits(count: usize, text: &[u8]) -> Lexeme
     if text.len() < count {
         return bad_escape();
     }
-    spelled(2 + count, hex_number(&text[..count]))
+    letter_of_escape(2 + count, hex_number(&text[..count]))
 }
 
 /// The escape whose one to six digits a `}` ends.
@@ -57,7 +57,7 @@ fn braced_digits(text: &[u8]) -> Lexeme
     if count == text.len() || count == 0 || count > 6 {
         return bad_escape();
     }
-    spelled(4 + count, hex_number(&text[..count]))
+    letter_of_escape(4 + count, hex_number(&text[..count]))
 }
 
 /// The escape with so many digits, or with one to six between braces.
@@ -66,7 +66,7 @@ pub(crate) fn any_digits(count: usize, text: &[u8]) -> Lexeme
     ensures { lexeme_view result ≡ any_digits count text.now }
 {
     if begins_with(text, b'{') {
-        braced_digits(behind(text, 1))
+        braced_digits(bytes_behind(text, 1))
     } else {
         fixed_digits(count, text)
     }
@@ -105,10 +105,10 @@ pub(crate) fn plain_escape(character: char, size: usize) -> Lexeme
     ensures { lexeme_view result ≡ plain_escape character size }
 {
     if let Some(control) = control_of(character) {
-        return spelled(2, Some(control));
+        return letter_of_escape(2, Some(control));
     }
     if is_letter_or_digit(character) {
         return bad_escape();
     }
-    spelled(1 + size, Some(u32::from(character)))
+    letter_of_escape(1 + size, Some(u32::from(character)))
 }

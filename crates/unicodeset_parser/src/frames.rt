@@ -24,7 +24,7 @@ const AROUND: usize = 63;
 const FEW: usize = 64;
 
 /// A bracket set without steps.
-pub(crate) fn fresh(alloc: Global, negated: bool, join: Join) -> Frame
+pub(crate) fn empty_frame(alloc: Global, negated: bool, join: Join) -> Frame
     ensures { frame_view result ≡ fresh negated join }
 {
     Frame {
@@ -124,7 +124,7 @@ fn with_step(alloc: Global, join: Join, part: Expr, frame: Frame) -> Result<Fram
 /// One more step of the innermost bracket set.
 ///
 /// - `Memory`: memory ran out.
-pub(crate) fn put(alloc: Global, join: Join, part: Expr, nest: Nest) -> Result<Nest, Memory>
+pub(crate) fn put_step(alloc: Global, join: Join, part: Expr, nest: Nest) -> Result<Nest, Memory>
     ensures frame { IfOk result
         (λ more. frame_view more.frame ≡ put join (tree_view part) (frame_view nest.frame)) }
     ensures around { IfOk result
@@ -186,7 +186,7 @@ pub(crate) fn opened(
     Ok(State::Within(
         Mode::First,
         Nest {
-            frame: fresh(alloc, negated, join),
+            frame: empty_frame(alloc, negated, join),
             around,
         },
     ))

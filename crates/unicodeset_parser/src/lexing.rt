@@ -6,10 +6,10 @@ ghost use Rattle.unicodeset_parser.specs.Tokens.{sized, letter};
 ghost use Rattle.unicodeset_parser.specs.TokenViews.{sign_view, lexeme_view};
 
 use crate::blank::closes;
-use crate::bytes::{begins_with, behind, first_char};
-use crate::escape::{any_digits, fixed_digits, plain_escape, spelled};
+use crate::bytes::{begins_with, bytes_behind, first_char};
+use crate::escape::{any_digits, fixed_digits, letter_of_escape, plain_escape};
 use crate::property::{braces, property_at};
-use crate::token::{Lexeme, Token, Wrong};
+use crate::token::{BadToken, Lexeme, Token};
 use std::alloc::Global;
 use ucd_points::Memory;
 
@@ -26,7 +26,7 @@ fn colon(alloc: Global, at: usize, text: &[u8]) -> Result<Lexeme, Memory>
     ensures { IfOk result (λ l. lexeme_view l ≡ colon at text.now) }
 {
     if begins_with(text, b'^') {
-        property_at(alloc, at, true, 3, b":]", behind(text, 1))
+        property_at(alloc, at, true, 3, b":]", bytes_behind(text, 1))
     } else {
         property_at(alloc, at, false, 2, b":]", text)
     }
@@ -38,7 +38,7 @@ fn opening(alloc: Global, at: usize, text: &[u8]) -> Result<Lexeme, Memory>
     ensures { IfOk result (λ l. lexeme_view l ≡ opening at text.now) }
 {
     if begins_with(text, b':') {
-        return colon(alloc, at, behind(text, 1));
+        return colon(alloc, at, bytes_behind(text, 1));
     }
     if begins_with(text, b'^') {
         return Ok(Lexeme {
@@ -56,15 +56,15 @@ fn escape(alloc: Global, at: usize, text: &[u8]) -> Result<Lexeme, Memory>
 {
     let (first, size) = first_char(text);
     let Some(first) = first else {
-        return Ok(one_byte(Token::Wrong(Wrong::Cut)));
+        return Ok(one_byte(Token::Wrong(BadToken::Cut)));
     };
     match first {
-        'p' => braces(alloc, at, false, behind(text, 1)),
-        'P' => braces(alloc, at, true, behind(text, 1)),
-        'N' => Ok(one_byte(Token::Wrong(Wrong::CharacterName))),
-        'u' => Ok(any_digits(4, behind(text, 1))),
-        'x' => Ok(any_digits(2, behind(text, 1))),
-        'U' => Ok(fixed_digits(8, behind(text, 1))),
+        'p' => braces(alloc, at, false, bytes_behind(text, 1)),
+        'P' => braces(alloc, at, true, bytes_behind(text, 1)),
+        'N' => Ok(one_byte(Token::Wrong(BadToken::CharacterName))),
+        'u' => Ok(any_digits(4, bytes_behind(text, 1))),
+        'x' => Ok(any_digits(2, bytes_behind(text, 1))),
+        'U' => Ok(fixed_digits(8, bytes_behind(text, 1))),
         _ => Ok(plain_escape(first, size)),
     }
 }
@@ -74,7 +74,7 @@ fn hyphen(text: &[u8]) -> Token
     ensures { sign_view result ≡ hyphen text.now }
 {
     if closes(text) {
-        spelled(1, Some(0x2d)).token
+        letter_of_escape(1, Some(0x2d)).token
     } else {
         Token::Dash
     }
@@ -82,21 +82,21 @@ fn hyphen(text: &[u8]) -> Token
 
 /// The first token of a text that is UTF-8 and begins with no white space. Its place in the whole text is `at`.
 #[tactic(auto, unfolding(crate::specs::Lexing::lexed))]
-pub(crate) fn lexed(alloc: Global, at: usize, text: &[u8]) -> Result<Lexeme, Memory>
+pub(crate) fn first_token(alloc: Global, at: usize, text: &[u8]) -> Result<Lexeme, Memory>
     ensures { IfOk result (λ l. lexeme_view l ≡ lexed at text.now) }
 {
     let (first, size) = first_char(text);
     let Some(first) = first else {
-        return Ok(one_byte(Token::Wrong(Wrong::Other)));
+        return Ok(one_byte(Token::Wrong(BadToken::Other)));
     };
     match first {
-        '[' => opening(alloc, at, behind(text, 1)),
+        '[' => opening(alloc, at, bytes_behind(text, 1)),
         ']' => Ok(one_byte(Token::Close)),
         '&' => Ok(one_byte(Token::And)),
-        '-' => Ok(one_byte(hyphen(behind(text, 1)))),
-        '\\' => escape(alloc, at, behind(text, 1)),
-        '{' | '$' => Ok(one_byte(Token::Wrong(Wrong::Special))),
-        '}' | '^' => Ok(one_byte(Token::Wrong(Wrong::Other))),
+        '-' => Ok(one_byte(hyphen(bytes_behind(text, 1)))),
+        '\\' => escape(alloc, at, bytes_behind(text, 1)),
+        '{' | '$' => Ok(one_byte(Token::Wrong(BadToken::Special))),
+        '}' | '^' => Ok(one_byte(Token::Wrong(BadToken::Other))),
         _ => Ok(letter(first, size)),
     }
 }
@@ -105,5 +105,5 @@ pub(crate) fn lexed(alloc: Global, at: usize, text: &[u8]) -> Result<Lexeme, Mem
 fn letter(character: char, size: usize) -> Lexeme
     ensures { lexeme_view result ≡ sized size (letter character) }
 {
-    spelled(size, Some(u32::from(character)))
+    letter_of_escape(size, Some(u32::from(character)))
 }

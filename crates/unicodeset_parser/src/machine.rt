@@ -10,7 +10,7 @@ ghost use Rattle.unicodeset_parser.specs.Views.{tree_view};
 
 use crate::expr::{Expr, Join};
 use crate::faults::{element_fault, fault, late_fault, range_fault, set_fault};
-use crate::frames::{closed, fresh, opened, put, put_span};
+use crate::frames::{closed, empty_frame, opened, put_span, put_step};
 use crate::state::{Mode, Nest, State};
 use crate::stop::{SetRule, SetStop};
 use crate::token::Token;
@@ -25,7 +25,7 @@ fn begun(alloc: Global, end: usize, at: usize, token: Token) -> Result<State, Se
         Token::Open(negated) => Ok(State::Within(
             Mode::First,
             Nest {
-                frame: fresh(alloc, negated, Join::Union),
+                frame: empty_frame(alloc, negated, Join::Union),
                 around: Vec::new(alloc),
             },
         )),
@@ -50,7 +50,10 @@ fn operand(
 {
     match token {
         Token::Open(negated) => opened(alloc, at, negated, join, nest),
-        Token::Property(expr) => Ok(State::Within(Mode::BehindSet, put(alloc, join, expr, nest)?)),
+        Token::Property(expr) => Ok(State::Within(
+            Mode::BehindSet,
+            put_step(alloc, join, expr, nest)?,
+        )),
         Token::Wrong(wrong) => Err(set_fault(end, at, wrong)),
         _ => Err(fault(SetRule::S3, at)),
     }
@@ -66,7 +69,7 @@ fn element(alloc: Global, end: usize, nest: Nest, at: usize, token: Token) -> Re
         Token::Open(negated) => opened(alloc, at, negated, Join::Union, nest),
         Token::Property(expr) => Ok(State::Within(
             Mode::BehindSet,
-            put(alloc, Join::Union, expr, nest)?,
+            put_step(alloc, Join::Union, expr, nest)?,
         )),
         Token::Close => closed(alloc, nest),
         Token::Letter(letter) => Ok(State::Within(Mode::Pending(letter), nest)),

@@ -8,10 +8,10 @@ ghost use Rattle.unicodeset_parser.specs.StateViews.{state_view};
 ghost use Rattle.unicodeset_parser.specs.Views.{tree_view};
 
 use crate::blank::blank_size;
-use crate::bytes::behind;
+use crate::bytes::bytes_behind;
 use crate::expr::Expr;
 use crate::faults::fault;
-use crate::lexing::lexed;
+use crate::lexing::first_token;
 use crate::machine::{finished, step};
 use crate::state::State;
 use crate::stop::{SetRule, SetStop};
@@ -27,11 +27,11 @@ fn tree_of(alloc: Global, text: &[u8]) -> Result<Expr, SetStop>
     'tokens: while !rest.is_empty() {
         let blanks = blank_size(rest);
         if blanks > 0 {
-            rest = behind(rest, blanks);
+            rest = bytes_behind(rest, blanks);
         } else {
             let at = text.len() - rest.len();
-            let lexeme = lexed(alloc, at, rest)?;
-            rest = behind(rest, lexeme.size.max(1));
+            let lexeme = first_token(alloc, at, rest)?;
+            rest = bytes_behind(rest, lexeme.size.max(1));
             state = match step(alloc, text.len(), state, at, lexeme.token) {
                 Ok(next) => next,
                 Err(stop) => return Err(stop),

@@ -7,10 +7,10 @@ ghost use Rattle.unicodeset_parser.specs.Properties.{parted, property_sign, prop
 ghost use Rattle.unicodeset_parser.specs.TokenViews.{sign_view, lexeme_view};
 ghost use Rattle.unicodeset_parser.specs.Views.{tree_view};
 
-use crate::bytes::{begins_with, behind, found_at};
+use crate::bytes::{begins_with, bytes_behind, found_at};
 use crate::escape::bad_escape;
 use crate::expr::{Expr, NamedProperty, ValuedProperty};
-use crate::token::{Lexeme, Token, Wrong};
+use crate::token::{BadToken, Lexeme, Token};
 use std::alloc::Global;
 use ucd_lines::{cut, first_at};
 use ucd_points::{Memory, Text};
@@ -30,7 +30,12 @@ pub(crate) fn negated_by(alloc: Global, negated: bool, expr: Expr) -> Result<Exp
 }
 
 /// The property that is named alone.
-fn named(alloc: Global, negated: bool, name: &[u8], at: usize) -> Result<Token, Memory>
+fn property_without_value(
+    alloc: Global,
+    negated: bool,
+    name: &[u8],
+    at: usize,
+) -> Result<Token, Memory>
     ensures { IfOk result
         (λ token. sign_view token ≡ property (negated_by negated (named name.now at))) }
 {
@@ -41,12 +46,17 @@ fn named(alloc: Global, negated: bool, name: &[u8], at: usize) -> Result<Token, 
 
 /// The property of a name with a `=`, which parts property and value.
 #[tactic(auto, unfolding(crate::specs::Properties::parted))]
-fn parted(alloc: Global, negated: bool, name: &[u8], at: usize) -> Result<Token, Memory>
+fn property_with_value(
+    alloc: Global,
+    negated: bool,
+    name: &[u8],
+    at: usize,
+) -> Result<Token, Memory>
     ensures { IfOk result (λ token. sign_view token ≡ parted negated name.now at) }
 {
     let (property, value) = cut(name, b'=');
     if begins_with(value, b'/') {
-        return Ok(Token::Wrong(Wrong::RefusedName));
+        return Ok(Token::Wrong(BadToken::RefusedName));
     }
     let property = Text::of(alloc, property)?;
     let value = Text::of(alloc, value)?;
@@ -67,12 +77,12 @@ fn property_token(alloc: Global, negated: bool, name: &[u8], at: usize) -> Resul
     ensures { IfOk result (λ token. sign_view token ≡ property_sign negated name.now at) }
 {
     if found_at(name, NOT_EQUAL).is_some() {
-        return Ok(Token::Wrong(Wrong::RefusedName));
+        return Ok(Token::Wrong(BadToken::RefusedName));
     }
     if first_at(name, b'=') < name.len() {
-        parted(alloc, negated, name, at)
+        property_with_value(alloc, negated, name, at)
     } else {
-        named(alloc, negated, name, at)
+        property_without_value(alloc, negated, name, at)
     }
 }
 
@@ -93,7 +103,7 @@ pub(crate) fn property_at(
 {
     let Some(len) = found_at(text, closing) else {
         return Ok(Lexeme {
-            token: Token::Wrong(Wrong::Unclosed),
+            token: Token::Wrong(BadToken::Unclosed),
             size: 1,
         });
     };
@@ -109,12 +119,12 @@ pub(crate) fn braces(alloc: Global, at: usize, negated: bool, text: &[u8]) -> Re
 {
     if text.is_empty() {
         return Ok(Lexeme {
-            token: Token::Wrong(Wrong::Unclosed),
+            token: Token::Wrong(BadToken::Unclosed),
             size: 1,
         });
     }
     if !begins_with(text, b'{') {
         return Ok(bad_escape());
     }
-    property_at(alloc, at, negated, 3, b"}", behind(text, 1))
+    property_at(alloc, at, negated, 3, b"}", bytes_behind(text, 1))
 }

@@ -5,7 +5,7 @@ use ucd_points::Point;
 
 /// What may stand in no text. Which rule it breaks depends on the place where it stands.
 #[derive(Clone, Copy)]
-pub(crate) enum Wrong {
+pub(crate) enum BadToken {
     /// A property that is never closed, or a `\p` or `\P` at the end of the text.
     Unclosed,
     /// A name with the not-equal sign, or with a value that begins with `/`.
@@ -38,7 +38,7 @@ pub(crate) enum Token {
     /// A whole property.
     Property(Expr),
     /// What stands in no text.
-    Wrong(Wrong),
+    Wrong(BadToken),
 }
 
 /// A token and how many bytes it takes.

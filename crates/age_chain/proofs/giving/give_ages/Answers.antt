@@ -14,7 +14,7 @@ pub stretches-preserved : goal.stretches-preserved
 stretches-preserved c = record {
   now = λ d lt. c.in_ok-last.ensures.now d lt ∙ c.stretches.invariant.now d lt;
   next = rw c.number-number.ensures.value
-      (given_over c.args.bench.now c.args.age _ (values_now c.stretches.ages) (values_now c.give_from.new.ages) (values_next c.give_from.new.ages) (λ d lt. sym (c.in_ok-last.ensures.now d lt)) c.in_ok-last.ensures.next);
+      (given_over c.args.bench.now c.args.age _ (values_now c.stretches.ages) (values_now c.give_age_to_stretch.new.ages) (values_next c.give_age_to_stretch.new.ages) (λ d lt. sym (c.in_ok-last.ensures.now d lt)) c.in_ok-last.ensures.next);
   within = omega (arith, c.number-number.ensures.bound);
 }
 

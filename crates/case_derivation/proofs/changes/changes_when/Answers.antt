@@ -38,9 +38,9 @@ returns-then-not-is_unmapped g c =
     let is = c.index-nfd-at.is in
     let G : Facts = shown_facts c.facts.result in
     let shown : G ≡ F x = c.facts.ensures in
-    let all = c.all_left in
-    let put = c.left_behind-left in
-    let found = c.changes_behind.ensures in
+    let all = c.all_unmatched in
+    let put = c.unmatched_after-left in
+    let found = c.changes_after.ensures in
     let lowered = found.lowered ∙ ap (λ xs. not (matches put.result.lowered (lower F xs))) (whole s (i + 1)) ∙ ap not (mapped_more s i x (omega arith) is all.result.lowered put.result.lowered (image_points x G.lower) put.ensures.lowered (lower_of F) (ap (λ (f : Facts). image_points x f.lower) shown)
     ∙ all.ensures.lowered _ ∙ ap (bytes_eq (lower F (drop i s))) (whole s i) ∙ c.unmapped.invariant.lowered) in
     let uppered = found.uppered ∙ ap (λ xs. not (matches put.result.uppered (upper F xs))) (whole s (i + 1)) ∙ ap not (mapped_more s i x (omega arith) is all.result.uppered put.result.uppered (image_points x G.upper) put.ensures.uppered (upper_of F) (ap (λ (f : Facts). image_points x f.upper) shown)

@@ -12,11 +12,11 @@ returns-then-is_empty c = λ sources keeps k lt.
     let none : length c.in_ok-spans.spans.items ≡ 0 = grind (arith, nat_tests, c.is_empty.ensures, c.if-is_empty.true) in
     omega (arith, no_bit c.in_ok-spans.spans.items c.args.mark sources k lt (c.in_ok-spans.ensures sources keeps) none)
 
-pub summed-requires : goal.summed-requires
-summed-requires c k lt =
+pub sum_of_tables-requires : goal.sum_of_tables-requires
+sum_of_tables-requires c k lt =
     omega (arith, c.requires k lt, c.in_ok-one.ensures k lt, cond_small (list_any (within k) c.in_ok-spans.spans.items) c.word.result, c.word.ensures.below)
 
 pub returns : goal.returns
 returns c = λ sources keeps.
-    IfOk-weaker c.summed.result _ _ (λ sum h k lt.
-    h k lt ∙ ap (λ n. values_now c.args.table k + n) (c.in_ok-one.ensures k lt ∙ bit_of c.in_ok-spans.spans.items c.args.mark sources k c.word.result lt (c.in_ok-spans.ensures sources keeps) c.word.ensures.value)) c.summed.ensures
+    IfOk-weaker c.sum_of_tables.result _ _ (λ sum h k lt.
+    h k lt ∙ ap (λ n. values_now c.args.table k + n) (c.in_ok-one.ensures k lt ∙ bit_of c.in_ok-spans.spans.items c.args.mark sources k c.word.result lt (c.in_ok-spans.ensures sources keeps) c.word.ensures.value)) c.sum_of_tables.ensures

@@ -10,8 +10,8 @@ use Rattle.code_facts.proofs.MarkLemmas.{marks_small}
 use Rattle.code_facts.proofs.FactLemmas.{row_shown, word_small}
 use Rattle.code_facts.proofs.row_tables.over.Goals as goal
 
-pub summed-requires : goal.summed-requires
-summed-requires c k lt =
+pub sum_of_tables-requires : goal.sum_of_tables-requires
+sum_of_tables-requires c k lt =
     let sources = sources_of c.args.rows.now in
     let given = ap (λ d. d.word) (c.requires.gives k lt) in
     let small = word_small k (data_row (sources UnicodeData) k) (c.requires.class k) in

@@ -9,8 +9,8 @@ returns-then-len-gt-MOST g t c = Behind_full c.args.points.now (expand (g.W.Fact
 
 pub returns-then-is_empty : goal.returns-then-is_empty
 returns-then-is_empty g t c =
-    let mapping : List ℕ = c.counted-mapping.result.now in
-    let alone = expand_alone (g.W.FactView.facts_of c.args.view.now) c.args.compat c.args.levels c.args.c mapping (omega arith) c.counted-mapping.ensures (no_members _ (length mapping) c.is_empty.ensures c.if-is_empty.true) in
+    let mapping : List ℕ = c.mapping_if_counted-mapping.result.now in
+    let alone = expand_alone (g.W.FactView.facts_of c.args.view.now) c.args.compat c.args.levels c.args.c mapping (omega arith) c.mapping_if_counted-mapping.ensures (no_members _ (length mapping) c.is_empty.ensures c.if-is_empty.true) in
     rw (alone, c.in_ok-push.ensures.ok) (Behind_alone c.args.points.now c.args.c (omega (arith, c.len.ensures)))
 
 pub members-init : goal.members-init
@@ -19,8 +19,8 @@ members-init g t c = record { room = c.requires; above = Behind_nothing c.args.p
 pub returns-in_err-put_expansion : goal.returns-in_err-put_expansion
 returns-in_err-put_expansion g t c =
     let f : ℕ → Option (List ℕ) = expand (g.W.FactView.facts_of c.args.view.now) c.args.compat (c.args.levels - 1) in
-    let mapping : List ℕ = c.counted-mapping.result.now in
-    let members = expand_joined (g.W.FactView.facts_of c.args.view.now) c.args.compat c.args.levels c.args.c mapping (omega arith) c.counted-mapping.ensures (has_members _ (length mapping) c.is_empty.ensures c.if-is_empty.false) in
+    let mapping : List ℕ = c.mapping_if_counted-mapping.result.now in
+    let members = expand_joined (g.W.FactView.facts_of c.args.view.now) c.args.compat c.args.levels c.args.c mapping (omega arith) c.mapping_if_counted-mapping.ensures (has_members _ (length mapping) c.is_empty.ensures c.if-is_empty.false) in
     let value : Option (List ℕ) = f c.member-item.result in
     let none = λ (e : value ≡ None). members ∙ walk_none f mapping c.members.member-index c.member-item.result (omega arith) c.member-item.is e in
     let p = err_from_is_err_and c.from_residual-in_err-put_expansion.result c.from_residual-in_err-put_expansion.ensures.1 in
@@ -29,7 +29,7 @@ returns-in_err-put_expansion g t c =
 pub members-preserved : goal.members-preserved
 members-preserved g t c =
     let f : ℕ → Option (List ℕ) = expand (g.W.FactView.facts_of c.args.view.now) c.args.compat (c.args.levels - 1) in
-    let mapping : List ℕ = c.counted-mapping.result.now in
+    let mapping : List ℕ = c.mapping_if_counted-mapping.result.now in
     record {
       room = Behind_room c.members.points c.put_expansion.new.points (f c.member-item.result) c.in_ok-put_expansion.ensures;
       above = walk_more f mapping c.members.member-index c.member-item.result (omega arith) c.member-item.is c.args.points.now c.members.points c.put_expansion.new.points c.members.invariant.above c.in_ok-put_expansion.ensures;
@@ -38,6 +38,6 @@ members-preserved g t c =
 pub returns : goal.returns
 returns g t c =
     let f : ℕ → Option (List ℕ) = expand (g.W.FactView.facts_of c.args.view.now) c.args.compat (c.args.levels - 1) in
-    let mapping : List ℕ = c.counted-mapping.result.now in
-    let members = expand_joined (g.W.FactView.facts_of c.args.view.now) c.args.compat c.args.levels c.args.c mapping (omega arith) c.counted-mapping.ensures (has_members _ (length mapping) c.is_empty.ensures c.if-is_empty.false) in
+    let mapping : List ℕ = c.mapping_if_counted-mapping.result.now in
+    let members = expand_joined (g.W.FactView.facts_of c.args.view.now) c.args.compat c.args.levels c.args.c mapping (omega arith) c.mapping_if_counted-mapping.ensures (has_members _ (length mapping) c.is_empty.ensures c.if-is_empty.false) in
     rw members (walk_end f mapping c.args.points.now c.members.points c.members.member-index c.members.invariant.above (omega arith))

@@ -18,7 +18,7 @@ derive_run-requires-in-runs g c =
 pub runs-preserved : goal.runs-preserved
 runs-preserved g c =
     let F : ℕ → Facts = tables_facts values_now c.args.tables.now in
-    let left : StandsBehind F (record_next c.put_behind.new.table) c.in_ok-run-2.run' c.in_ok-next.next.span.hi = c.in_ok-run-2.ensures F c.runs.invariant.run c.in_ok-next.ensures.run c.runs.invariant.below in
+    let left : StandsBehind F (record_next c.put_or_join.new.table) c.in_ok-run-2.run' c.in_ok-next.next.span.hi = c.in_ok-run-2.ensures F c.runs.invariant.run c.in_ok-next.ensures.run c.runs.invariant.below in
     record {
       below = left.below;
       run = left.run;
@@ -28,5 +28,5 @@ runs-preserved g c =
 pub runs-smaller : goal.runs-smaller
 runs-smaller g c =
     let F : ℕ → Facts = tables_facts values_now c.args.tables.now in
-    let left : StandsBehind F (record_next c.put_behind.new.table) c.in_ok-run-2.run' c.in_ok-next.next.span.hi = c.in_ok-run-2.ensures F c.runs.invariant.run c.in_ok-next.ensures.run c.runs.invariant.below in
+    let left : StandsBehind F (record_next c.put_or_join.new.table) c.in_ok-run-2.run' c.in_ok-next.next.span.hi = c.in_ok-run-2.ensures F c.runs.invariant.run c.in_ok-next.ensures.run c.runs.invariant.below in
     omega (arith, left.ends, left.run.inside, c.in_ok-next.ensures.run.ordered, c.in_ok-next.ensures.first, c.at-in-runs.ensures, c.last-in-runs.ensures.value)

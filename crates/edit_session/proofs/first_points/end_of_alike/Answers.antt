@@ -10,8 +10,8 @@ pub returns-in-Some-clause-alike : goal.returns-in-Some-clause-alike
 returns-in-Some-clause-alike c = λ d from lt.
     let F : ℕ → Facts = tables_facts values_now c.args.tables.now in
     let within : c.min.result ≤ c.in-Some.last + 1 = omega (arith, c.min.ensures, c.number.ensures.value) in
-    let below : c.min.result ≤ c.end_of_shown.result = omega (arith, c.min.ensures) in
-    uniform_run F c.args.c c.in-Some.last c.end_of_shown.result c.min.result d (c.in-Some.ensures.plain.0 refl) c.in-Some.ensures.stretch c.end_of_shown.ensures.same within below from lt
+    let below : c.min.result ≤ c.end_of_visible_format_run.result = omega (arith, c.min.ensures) in
+    uniform_run F c.args.c c.in-Some.last c.end_of_visible_format_run.result c.min.result d (c.in-Some.ensures.plain.0 refl) c.in-Some.ensures.stretch c.end_of_visible_format_run.ensures.same within below from lt
 
 pub returns-in-None-clause-alike : goal.returns-in-None-clause-alike
 returns-in-None-clause-alike c = λ d from lt.

@@ -16,4 +16,4 @@ pairs-preserved c s y is =
 pub returns-clause-among : goal.returns-clause-among
 returns-clause-among c s y is =
     let all : take c.pairs.pair-index c.args.pairs.now ≡ c.args.pairs.now = take_all c.pairs.pair-index c.args.pairs.now (omega arith) in
-    c.put_in_order.ensures.same (λ (n : ℕ). n == y) ∙ c.pairs.invariant s y (rw all is)
+    c.sort_and_dedup.ensures.same (λ (n : ℕ). n == y) ∙ c.pairs.invariant s y (rw all is)

@@ -13,5 +13,5 @@ returns-then-same_points g c =
     let form : nfkc F (c.args.c ∷ []) ≡ Ok (c.args.c ∷ []) = alone_form F c.args.c c.args.form.now c.requires.form (sym c.same_points.ensures ∙ c.if-same_points.true) in
     let ignorable = default_ignorable c.args.c (shown_facts c.args.facts.now) in
     λ k covered.
-    alone_image k F c.args.c form (unfolded k F c.args.c c.args.facts.now c.requires.facts (sym c.is_own.ensures ∙ c.if-is_own.true)) ignorable (ignored F c.args.c c.args.facts.now ignorable c.requires.facts refl)
+    alone_image k F c.args.c form (unfolded k F c.args.c c.args.facts.now c.requires.facts (sym c.folds_to_itself.ensures ∙ c.if-folds_to_itself.true)) ignorable (ignored F c.args.c c.args.facts.now ignorable c.requires.facts refl)
     ∙ ap (λ (i : Image). Ok i) (sym c.kept_or_dropped.ensures)

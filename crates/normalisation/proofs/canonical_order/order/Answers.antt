@@ -7,8 +7,8 @@ pub points-preserved : goal.points-preserved
 points-preserved g c =
     let class : ℕ → ℕ = class_of (g.W.FactView.facts_of c.args.view.now) in
     record {
-      length = order_same_length class c.points.s c.place.new.s c.points.at (omega arith) c.place.ensures ∙ c.points.invariant.length;
-      rest = order_more class c.points.s c.place.new.s c.points.at (omega arith) c.place.ensures ∙ c.points.invariant.rest;
+      length = order_same_length class c.points.s c.insert_in_order.new.s c.points.at (omega arith) c.insert_in_order.ensures ∙ c.points.invariant.length;
+      rest = order_more class c.points.s c.insert_in_order.new.s c.points.at (omega arith) c.insert_in_order.ensures ∙ c.points.invariant.rest;
     }
 
 pub returns : goal.returns

@@ -6,7 +6,7 @@ use Rattle.normalisation.proofs.forms.put_expansion.Goals as goal
 
 pub returns-in_ok-push : goal.returns-in_ok-push
 returns-in_ok-push g c =
-    let mapping : List ℕ = c.counted.result.now in
+    let mapping : List ℕ = c.mapping_if_counted.result.now in
     let empty : mapping ≡ [] = nil_from_length mapping (eqb-true (length mapping) 0 (sym c.is_empty.ensures ∙ c.if-is_empty.true)) in
-    let alone = expansion_alone (g.W.FactView.facts_of c.args.view.now) c.args.compat c.args.c (sym c.counted.ensures ∙ empty) in
+    let alone = expansion_alone (g.W.FactView.facts_of c.args.view.now) c.args.compat c.args.c (sym c.mapping_if_counted.ensures ∙ empty) in
     ap (appended (Ok c.args.points.now)) alone ∙ ap (λ zs. Ok zs) (sym c.in_ok-push.ensures.ok)

@@ -9,7 +9,7 @@ pub returns-clause-puts : goal.returns-clause-puts
 returns-clause-puts c =
     let page = c.own_page-page.result in
     let own = c.own_page-page.ensures in
-    let set = c.write.ensures in
+    let set = c.fill_words.ensures in
     let lo = c.args.lo in
     let hi = c.args.hi in
     let values = λ (a : _) (lt : _). set.words a lt ∙ ap (λ w. cond (leb lo a && leb a hi) c.args.value w) (own.words a lt) in
@@ -18,8 +18,8 @@ returns-clause-puts c =
       live = λ p is. rw (eqb-true p page is) (set.live page ∙ own.live);
       tight = λ p is even.
           let words = rw (eqb-true p page is) at even in
-          let outside = outside_from_even (value_of c.args.pool.now c.args.next) (word_of c.write.new.pool page) lo hi c.args.value c.requires.ordered (omega arith) values words in
-          true≢false (sym (c.is_one_then.ensures.uneven outside) ∙ c.if-is_one_then.false);
+          let outside = outside_from_even (value_of c.args.pool.now c.args.next) (word_of c.fill_words.new.pool page) lo hi c.args.value c.requires.ordered (omega arith) values words in
+          true≢false (sym (c.is_even_after.ensures.uneven outside) ∙ c.if-is_even_after.false);
       now_stays = λ p is. record {
         live = set.live p ∙ own.others_live p (own.now p is) ∙ c.requires.now p is;
         words = λ a lt. set.others p a (own.now p is) lt ∙ own.others_words p a (own.now p is) lt;

@@ -24,7 +24,7 @@ first_spot-requires-clause-before g c =
     let inner = c.in-Some.ensures.0.part in
     let slot : begin.slot < length ps = omega arith in
     let front = before_none p ps begin.slot begin.at c.args.count part slot c.index-parts-slot.is c.in-Some.ensures.0.within c.in-Some.ensures.1 c.requires.before in
-    let none : FirstIn None p (drop begin.at part.next) = rw (← c.next.ensures, ← c.from_place.ensures) c.in-None.ensures in
+    let none : FirstIn None p (drop begin.at part.next) = rw (← c.next.ensures, ← c.entries_from.ensures) c.in-None.ensures in
     none_of-part p ps begin.slot part slot c.index-parts-slot.is front
     (none_behind p ps begin.slot begin.at c.args.count part slot c.index-parts-slot.is c.in-Some.ensures.0.within c.in-Some.ensures.1 c.requires.before none)
 
@@ -38,6 +38,6 @@ returns-in-Some-first_in g c =
     let inner = c.in-Some.ensures.0.part in
     let slot : begin.slot < length ps = omega arith in
     let front = before_none p ps begin.slot begin.at c.args.count part slot c.index-parts-slot.is c.in-Some.ensures.0.within c.in-Some.ensures.1 c.requires.before in
-    let found : FirstIn (Some c.in-Some-first_in.at) p (drop begin.at part.next) = rw (← c.next.ensures, ← c.from_place.ensures) c.in-Some-first_in.ensures in
+    let found : FirstIn (Some c.in-Some-first_in.at) p (drop begin.at part.next) = rw (← c.next.ensures, ← c.entries_from.ensures) c.in-Some-first_in.ensures in
     FirstAt-found p ps begin.slot (begin.at + c.in-Some-first_in.at) part slot c.index-parts-slot.is front
     (found_behind p ps begin.slot begin.at c.args.count part slot c.index-parts-slot.is c.in-Some.ensures.0.within c.in-Some.ensures.1 c.requires.before c.in-Some-first_in.at found)

@@ -17,4 +17,4 @@ pub returns-clause-asked : goal.returns-clause-asked
 returns-clause-asked g c =
     let F : ℕ → Facts = g.W.FactView.facts_of c.args.view.now in
     let own : c.push-2.new.self.items ≡ Row c.args.c ∷ Second c.args.c ∷ [] = c.in_ok-push-2.ensures.items ∙ ap (λ (qs : List Query). qs ++ Second c.args.c ∷ []) (c.in_ok-push.ensures.items ∙ ap (λ (qs : List Query). qs ++ Row c.args.c ∷ []) c.in_ok-asked.ensures.items) in
-    λ q. c.query_set-2.ensures.same q ∙ c.in_ok-put_more.ensures q ∙ ap (λ (qs : List Query). is_asked (qs ++ other_asks F c.args.c) q) own ∙ asked_is F c.args.c c.requires q
+    λ q. c.query_set-2.ensures.same q ∙ c.in_ok-put_derivation_asks.ensures q ∙ ap (λ (qs : List Query). is_asked (qs ++ other_asks F c.args.c) q) own ∙ asked_is F c.args.c c.requires q

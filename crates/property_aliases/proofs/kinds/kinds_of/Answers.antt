@@ -29,8 +29,8 @@ kinds-preserved c =
     let names = c.as_slice.ensures ∙ c.in_ok-names.ensures in
     record {
       below = omega (arith, c.kinds-test.true);
-      len = ap length c.in_ok-push.ensures.items ∙ length_push c.kinds.kinds.items c.in_ok-direct_of.field-0 ∙ ap (λ n. n + 1) c.kinds.invariant.len;
+      len = ap length c.in_ok-push.ensures.items ∙ length_push c.kinds.kinds.items c.in_ok-places_of_table.field-0 ∙ ap (λ n. n + 1) c.kinds.invariant.len;
       places = λ k key lt. ap (λ ms. number_at ms k key) c.in_ok-push.ensures.items
-          ∙ more c.kinds.kinds.items c.in_ok-direct_of.field-0 c.kinds.kind tables c.kinds.invariant.len c.kinds.invariant.places
-          (λ key. c.in_ok-direct_of.ensures key ∙ ap (λ (ns : List (List ℕ)). direct ns key) names) k key lt;
+          ∙ more c.kinds.kinds.items c.in_ok-places_of_table.field-0 c.kinds.kind tables c.kinds.invariant.len c.kinds.invariant.places
+          (λ key. c.in_ok-places_of_table.ensures key ∙ ap (λ (ns : List (List ℕ)). direct ns key) names) k key lt;
     }

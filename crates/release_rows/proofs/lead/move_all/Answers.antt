@@ -9,7 +9,7 @@ leads-preserved c =
     let s = c.args.search.now in
     let at = c.leads.at in
     let xs = c.leads.leads.items in
-    let new = c.moved.result in
+    let new = c.moved_lead.result in
     let size = c.len.ensures in
     let test = c.leads-test.true in
     let lt : at < length xs = omega arith in
@@ -22,5 +22,5 @@ leads-preserved c =
       moved = λ row items added is some within all k d less.
           moved_more (IsLead s.file s.text (put_in items c.args.count added)) xs at k new d lt (omega arith)
           (c.leads.invariant.moved row items added is some within all k d)
-          (c.moved.ensures row items added is some within (subst (IsLead s.file s.text items) (sym (c.index.ensures ∙ c.leads.invariant.left at c.index.result.now (omega arith))) (all at c.index.result.now (omega arith))));
+          (c.moved_lead.ensures row items added is some within (subst (IsLead s.file s.text items) (sym (c.index.ensures ∙ c.leads.invariant.left at c.index.result.now (omega arith))) (all at c.index.result.now (omega arith))));
     }

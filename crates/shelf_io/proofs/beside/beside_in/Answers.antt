@@ -4,5 +4,5 @@ use Rattle.shelf_io.proofs.beside.beside_in.Goals as goal
 
 pub returns-in-Err-clause-fits : goal.returns-in-Err-clause-fits
 returns-in-Err-clause-fits c =
-    let ending : IsUtf8 (codes ".ucdshop-new") = subst IsUtf8 c.ending.ensures.bytes c.ending.ensures.text in
+    let ending : IsUtf8 (codes ".ucdshop-new") = subst IsUtf8 c.beside_ending.ensures.bytes c.beside_ending.ensures.text in
     λ short. absurd (c.in-Err.ensures.cases.0 (subst IsUtf8 (sym c.put_beside.ensures) (IsUtf8-append c.args.path.now (codes ".ucdshop-new") c.requires ending)))

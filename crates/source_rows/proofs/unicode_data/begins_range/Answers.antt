@@ -39,7 +39,7 @@ pub returns-then-not-may_open_name : goal.returns-then-not-may_open_name
 unfolding fields
 returns-then-not-may_open_name c =
     let content = c.args.content.now in
-    let behind : c.near_cut.result.1.now ≡ after_first is_semicolon content = c.near_cut.ensures.after in
+    let behind : c.cut_at_near_semicolon.result.1.now ≡ after_first is_semicolon content = c.cut_at_near_semicolon.ensures.after in
     let closed : may_open_name (after_first is_semicolon content) ≡ false = ap may_open_name (sym behind) ∙ sym c.may_open_name.ensures ∙ c.if-not-may_open_name.true in
     let name : field (fields_of content) 1 ≡ trim (before_first is_semicolon (after_first is_semicolon content)) = others_are content 0 ∙ first_is (after_first is_semicolon content) in
     sym (none_both _ (has_first_name (field (fields_of content) 1)) (ap has_first_name name ∙ no_first_name (after_first is_semicolon content) closed))

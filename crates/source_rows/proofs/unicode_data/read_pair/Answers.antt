@@ -15,6 +15,6 @@ returns c =
     let same : line ≡ fields UnicodeData (without_return c.args.front.now) = c.fifteen_fields-line.ensures ∙ ap (λ (bs : List ℕ). fields_of bs) c.without_return-first.ensures in
     let first : are_first_fields (fields UnicodeData c.without_return-first.result.now) ≡ true = sym c.begins_range.ensures ∙ c.if-not-begins_range.false in
     let begins : are_first_fields line ≡ true = ap (λ (fs : List (List ℕ)). are_first_fields fs) c.fifteen_fields-line.ensures ∙ first in
-    let e = pair_is line (fields UnicodeData c.args.last.now) c.in-Some.lo c.label_of-label.result.now c.pair_end.result begins (sym c.hex.ensures ∙ c.in-Some.is) c.label_of-label.ensures c.pair_end.ensures in
+    let e = pair_is line (fields UnicodeData c.args.last.now) c.in-Some.lo c.label_of-label.result.now c.span_of_range.result begins (sym c.hex.ensures ∙ c.in-Some.is) c.label_of-label.ensures c.span_of_range.ensures in
     let no_feed = sym c.holds_line_feed.ensures ∙ c.if-holds_line_feed.false in
     rw no_feed (subst (λ (fs : List (List ℕ)). DataTextAs c.text_or_fault.result (pair_or_fault fs (fields UnicodeData c.args.last.now))) same (rw e c.text_or_fault.ensures))

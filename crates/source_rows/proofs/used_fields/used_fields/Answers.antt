@@ -6,16 +6,16 @@ use Rattle.source_rows.proofs.used_fields.used_fields.Goals as goal
 
 pub returns-in_err-f12 : goal.returns-in_err-f12
 returns-in_err-f12 c =
-    let n4 = ap (λ (bs : List ℕ). count_by is_semicolon bs) c.near_cut.ensures.after ∙ fewer_are c.first_short_field-2.result.1.now in
+    let n4 = ap (λ (bs : List ℕ). count_by is_semicolon bs) c.cut_at_near_semicolon.ensures.after ∙ fewer_are c.first_short_field-2.result.1.now in
     rw c.from_residual.ensures (λ all. c.in_err-f12.ensures (omega (arith, count_is c.args.tail.now, count_is c.first_short_field-3.result.1.now, c.first_short_field.ensures.fewer, c.first_short_field-2.ensures.fewer, n4, c.first_short_field-3.ensures.fewer, all)))
 
 pub returns : goal.returns
 returns c =
     let o2 = c.first_short_field.ensures.others in
     let o3 = c.first_short_field-2.ensures.others in
-    let o4 : (n : ℕ) → field (fields_of c.first_short_field-2.result.1.now) (n + 1) ≡ field (fields_of c.near_cut.result.1.now) n = λ n. rw c.near_cut.ensures.after (others_are c.first_short_field-2.result.1.now n) in
+    let o4 : (n : ℕ) → field (fields_of c.first_short_field-2.result.1.now) (n + 1) ≡ field (fields_of c.cut_at_near_semicolon.result.1.now) n = λ n. rw c.cut_at_near_semicolon.ensures.after (others_are c.first_short_field-2.result.1.now n) in
     let o5 = c.first_short_field-3.ensures.others in
-    let n4 = ap (λ (bs : List ℕ). count_by is_semicolon bs) c.near_cut.ensures.after ∙ fewer_are c.first_short_field-2.result.1.now in
+    let n4 = ap (λ (bs : List ℕ). count_by is_semicolon bs) c.cut_at_near_semicolon.ensures.after ∙ fewer_are c.first_short_field-2.result.1.now in
     let cases = c.in_ok-f12.ensures in
     record {
       count = omega (arith, count_is c.args.tail.now, count_is c.first_short_field-3.result.1.now, c.first_short_field.ensures.fewer, c.first_short_field-2.ensures.fewer, n4, c.first_short_field-3.ensures.fewer, cases.count);

@@ -15,7 +15,7 @@ rows-preserved c =
     let moves = step_moves c.in_ok-step.step in
     record {
       left = rw (c.olds-at_old.ensures, c.news-at_new.ensures)
-          (step_left (c.args.before.now.items ++ named c.args.old.now) (c.args.after.now.items ++ named c.args.new.now) c.rows.before.items c.take_one.new.before.items c.rows.after.items c.take_one.new.after.items
+          (step_left (c.args.before.now.items ++ named c.args.old.now) (c.args.after.now.items ++ named c.args.new.now) c.rows.before.items c.take_same_or_first.new.before.items c.rows.after.items c.take_same_or_first.new.after.items
           c.rows.at_old c.rows.at_new c.args.old.now c.args.new.now c.index-old-at_old.result c.index-new-at_new.result c.in_ok-step.step (omega (arith, c.rows-test.true)) (omega (arith, c.if-at_new-new.true))
           c.index-old-at_old.is c.index-new-at_new.is c.in_ok-step.ensures.taken c.rows.invariant.left);
       old_within = omega (arith, moves.0, c.olds-at_old.ensures, c.rows-test.true);

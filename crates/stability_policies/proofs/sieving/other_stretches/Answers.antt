@@ -8,7 +8,7 @@ points-preserved g c =
     let O = g.O.FactView.facts_of c.args.old.now in
     let N = g.N.FactView.facts_of c.args.new.now in
     record {
-      others = λ policy other. breaking_next O N policy c.points.number c.at-c.result c.last_alike-last.result c.number-number.result (points_of policy c.points.stretches) (points_of policy c.put_others.new.into)
+      others = λ policy other. breaking_next O N policy c.points.number c.at-c.result c.last_alike-last.result c.number-number.result (points_of policy c.points.stretches) (points_of policy c.put_other_policies.new.into)
           c.at-c.ensures c.number-number.ensures.value c.last_alike-last.ensures.from (c.last_alike-last.ensures.alike.broken policy) (c.points.invariant.others policy other) (c.in_ok-keep_forms.ensures.put policy other);
       forms = decides_next O N c.points.number c.at-c.result c.last_alike-last.result c.number-number.result c.points.keep_forms c.in_ok-keep_forms.field-0
           c.at-c.ensures c.number-number.ensures.value c.last_alike-last.ensures.from c.last_alike-last.ensures.alike.kept c.points.invariant.forms c.in_ok-keep_forms.ensures.keeps;

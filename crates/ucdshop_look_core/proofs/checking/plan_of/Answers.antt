@@ -18,5 +18,5 @@ returns c =
       files = ap files_of none;
       lines = subst HaveLines (sym none) refl;
       summary = c.in_ok-text.ensures bench.current ∙ ap (check_text (session_of bench carried)) broken;
-      done = c.is_done.ensures ∙ ap (λ (breaks : List Break). nat_lt 0 carried.refused || nat_lt 0 (length breaks)) broken;
+      done = c.has_refusal_or_break.ensures ∙ ap (λ (breaks : List Break). nat_lt 0 carried.refused || nat_lt 0 (length breaks)) broken;
     }

@@ -7,5 +7,5 @@ pub blanks-preserved : goal.blanks-preserved
 blanks-preserved c = (
   sym c.blank_size-blanks-in-blanks.ensures.size,
   c.blank_size-blanks-in-blanks.ensures.within,
-  c.blanks.invariant.2 ∙ closes_step c.blanks.blanks c.blanks.rest.now c.blanks.invariant.0 c.blanks-test.true ∙ ap (closes 0) (sym c.behind-rest.ensures),
+  c.blanks.invariant.2 ∙ closes_step c.blanks.blanks c.blanks.rest.now c.blanks.invariant.0 c.blanks-test.true ∙ ap (closes 0) (sym c.bytes_behind-rest.ensures),
 )

@@ -12,8 +12,8 @@ tokens-preserved-then-blanks-gt0 c =
     let n = c.blank_size-blanks.result in
     let rest = c.tokens.rest.now in
     record {
-      shorter = rw c.behind-rest.ensures (omega (arith, length-drop n rest, c.tokens.invariant.shorter));
-      same = ap (λ r. run l (state_view c.tokens.state) (tokens 0 (l - length r) r)) c.behind-rest.ensures
+      shorter = rw c.bytes_behind-rest.ensures (omega (arith, length-drop n rest, c.tokens.invariant.shorter));
+      same = ap (λ r. run l (state_view c.tokens.state) (tokens 0 (l - length r) r)) c.bytes_behind-rest.ensures
           ∙ ap (λ ts. run l (state_view c.tokens.state) ts) (sym (tokens_blank l n rest (sym c.blank_size-blanks.ensures.size) c.if-blanks-gt0.true c.tokens.invariant.shorter))
           ∙ c.tokens.invariant.same;
     }
@@ -26,8 +26,8 @@ tokens-preserved c =
     let some : 0 < length rest = search (rules, arith) in
     let blank : c.blank_size-blanks.result ≡ 0 = omega arith in
     record {
-      shorter = rw c.behind-rest-else-blanks-gt0.ensures (omega (arith, length-drop m rest, c.tokens.invariant.shorter));
-      same = ap (λ r. run l (state_view c.in-Ok.next) (tokens 0 (l - length r) r)) c.behind-rest-else-blanks-gt0.ensures
+      shorter = rw c.bytes_behind-rest-else-blanks-gt0.ensures (omega (arith, length-drop m rest, c.tokens.invariant.shorter));
+      same = ap (λ r. run l (state_view c.in-Ok.next) (tokens 0 (l - length r) r)) c.bytes_behind-rest-else-blanks-gt0.ensures
           ∙ taken l m (state_view c.tokens.state) (state_view c.in-Ok.next) rest (lexeme_view c.in_ok-lexeme.lexeme) c.in_ok-lexeme.ensures c.in-Ok.ensures (sym c.blank_size-blanks.ensures.size ∙ blank) some c.tokens.invariant.shorter c.max.ensures
           ∙ c.tokens.invariant.same;
     }

@@ -7,6 +7,6 @@ use Rattle.bench_undo.proofs.history.History.bench.Goals as goal
 pub returns : goal.returns
 returns c =
     let bench : ReleaseItems = c.self.inside.bench in
-    let still : bench.prepared ≡ bench.current = c.is_still.ensures in
+    let still : bench.prepared ≡ bench.current = c.has_nothing_prepared.ensures in
     ap (λ (files : List (List FileItem)). let r : ReleaseItems = record { current = bench.current; prepared = files } in r) still
     ∙ ap (λ (s : HistoryState). let r : ReleaseItems = record { current = s.files; prepared = s.files } in r) c.self.view_is

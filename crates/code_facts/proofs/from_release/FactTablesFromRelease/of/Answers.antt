@@ -2,7 +2,7 @@ use Rattle.std.proofs.Common.{sym, ◌∙◌}
 use Rattle.ucd_facts.specs.FactsLemmas.{facts_inside}
 use Rattle.fact_tables.specs.FactTables.{words_at, rests_at}
 use Rattle.release_rows.specs.Releases.{rows_now}
-use Rattle.fact_tables.specs.declared.version.Version.TheVariants.{Now, Next}
+use Rattle.fact_tables.specs.declared.now_or_next.NowOrNext.TheVariants.{Now, Next}
 use Rattle.fact_tables.specs.KeptFactsLemmas.{point_below}
 use Rattle.code_facts.proofs.FactLemmas.{facts_from_points}
 use Rattle.code_facts.proofs.ReleaseLemmas.{shown_packs}

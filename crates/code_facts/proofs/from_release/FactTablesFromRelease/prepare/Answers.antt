@@ -9,7 +9,7 @@ use Rattle.release_rows.specs.Touching.{meets}
 use Rattle.code_facts.specs.Locality.{rows_within}
 use Rattle.code_facts.specs.RowTables.{ShowsRows}
 use Rattle.release_rows.specs.Releases.{rows_next}
-use Rattle.fact_tables.specs.declared.version.Version.TheVariants.{Now, Next}
+use Rattle.fact_tables.specs.declared.now_or_next.NowOrNext.TheVariants.{Now, Next}
 use Rattle.code_facts.proofs.FactLemmas.{facts_from_points}
 use Rattle.code_facts.proofs.ReleaseLemmas.{shown_packs, put_facts, on_ok_map}
 use Rattle.code_facts.proofs.from_release.FactTablesFromRelease.prepare.Goals as goal

@@ -1,7 +1,7 @@
 use Rattle.std.proofs.Common.{◌≡◌, ℕ, true, Result, Ok, Err, OnOk, is_ok, sym, subst}
 use Rattle.std.proofs.lemmas.Bool.{true≢false}
 use Rattle.fact_tables.specs.FactTables.{facts_at}
-use Rattle.fact_tables.specs.declared.version.Version.TheVariants.{Now}
+use Rattle.fact_tables.specs.declared.now_or_next.NowOrNext.TheVariants.{Now}
 use Rattle.fact_tables.proofs.SweepLemmas.{GathersBelow, gathers_more, gathers_all}
 use Rattle.fact_tables.proofs.TableLemmas.{listed_at}
 use Rattle.fact_tables.proofs.fact_tables.FactTables.candidates.Goals as goal

@@ -1,6 +1,6 @@
 use Rattle.std.proofs.Common.{◌-◌}
 use Rattle.fact_tables.specs.FactTables.{facts_at}
-use Rattle.fact_tables.specs.declared.version.Version.TheVariants.{Now}
+use Rattle.fact_tables.specs.declared.now_or_next.NowOrNext.TheVariants.{Now}
 use Rattle.fact_tables.proofs.SweepLemmas.{GathersBelow}
 use Rattle.fact_tables.proofs.fact_tables.FactTables.candidates.Given as goal
 

@@ -2,7 +2,7 @@ use Rattle.std.proofs.Common.{ℕ, ap, sym, ◌∙◌}
 use Rattle.ucd_facts.specs.Facts.{Facts}
 use Rattle.fact_tables.specs.FactTables.{words_at, rests_at}
 use Rattle.point_store.specs.SlotStore.{values}
-use Rattle.fact_tables.specs.declared.version.Version.TheVariants.{Now}
+use Rattle.fact_tables.specs.declared.now_or_next.NowOrNext.TheVariants.{Now}
 use Rattle.fact_tables.specs.KeptFactsLemmas.{same_kept}
 use Rattle.fact_tables.proofs.TableLemmas.{sound_same, sound_at}
 use Rattle.fact_tables.proofs.fact_tables.FactTables.discard.Goals as goal

@@ -1,7 +1,7 @@
 use Rattle.std.proofs.Common.{◌≡◌, refl, sym, ◌∙◌, arith}
 use Rattle.fact_tables.specs.FactTables.{words_at, rests_at}
 use Rattle.fact_tables.specs.Rest.{no_rest}
-use Rattle.fact_tables.specs.declared.version.Version.TheVariants.{Now}
+use Rattle.fact_tables.specs.declared.now_or_next.NowOrNext.TheVariants.{Now}
 use Rattle.fact_tables.proofs.PlainLemmas.{unmapped_plain}
 use Rattle.fact_tables.proofs.fact_tables.FactTables.is_plain.Goals as goal
 

@@ -9,4 +9,4 @@ returns-in-Some g c =
     sym (bare_unmapped (words_at c.args.version c.args.self.now) (rests_at c.args.version c.args.self.now) c.args.c _ (omega arith) (sym c.rest.ensures ∙ c.in-Some.ensures))
 
 pub returns-in-None : goal.returns-in-None
-returns-in-None g c = c.is_unmapped.ensures ∙ ap is_unmapped c.shown.ensures
+returns-in-None g c = c.is_unmapped.ensures ∙ ap is_unmapped c.facts_in.ensures

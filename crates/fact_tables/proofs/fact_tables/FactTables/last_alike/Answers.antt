@@ -1,6 +1,6 @@
 use Rattle.std.proofs.Common.{arith}
 use Rattle.fact_tables.specs.FactTables.{words_at, rests_at}
-use Rattle.fact_tables.specs.declared.version.Version.TheVariants.{Now}
+use Rattle.fact_tables.specs.declared.now_or_next.NowOrNext.TheVariants.{Now}
 use Rattle.fact_tables.proofs.AlikeLemmas.{same_words}
 use Rattle.fact_tables.proofs.fact_tables.FactTables.last_alike.Goals as goal
 

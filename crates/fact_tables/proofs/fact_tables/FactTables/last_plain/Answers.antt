@@ -2,7 +2,7 @@ use Rattle.std.proofs.Common.{◌≡◌, ◌==◌, ℕ, true, List, [], length, 
 use Rattle.ucd_facts.specs.Facts.{Facts}
 use Rattle.fact_tables.specs.FactTables.{words_at, rests_at}
 use Rattle.fact_tables.specs.Rest.{RestOf, no_rest}
-use Rattle.fact_tables.specs.declared.version.Version.TheVariants.{Now}
+use Rattle.fact_tables.specs.declared.now_or_next.NowOrNext.TheVariants.{Now}
 use Rattle.fact_tables.specs.KeptFactsLemmas.{kept_point}
 use Rattle.fact_tables.proofs.PlainLemmas.{unmapped_plain}
 use Rattle.fact_tables.proofs.fact_tables.FactTables.last_plain.Goals as goal

@@ -1,7 +1,7 @@
 use Rattle.std.proofs.Common.{◌≡◌, subst, sym, arith}
 use Rattle.fact_tables.specs.FactTables.{words_at, rests_at, facts_at}
 use Rattle.ucd_points.specs.Stretches.{HoldsTo}
-use Rattle.fact_tables.specs.declared.version.Version.TheVariants.{Now, Next}
+use Rattle.fact_tables.specs.declared.now_or_next.NowOrNext.TheVariants.{Now, Next}
 use Rattle.fact_tables.proofs.AlikeLemmas.{same_to}
 use Rattle.fact_tables.proofs.fact_tables.FactTables.last_same.Goals as goal
 

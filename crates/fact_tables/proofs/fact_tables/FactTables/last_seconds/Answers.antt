@@ -2,7 +2,7 @@ use Rattle.std.proofs.Common.{◌≡◌, ℕ, ◌+◌, ◌/◌, ◌≤◌, ◌<�
 use Rattle.ucd_facts.specs.Composites.{second_of}
 use Rattle.fact_tables.specs.FactTables.{facts_at}
 use Rattle.fact_tables.specs.Index.{second_key}
-use Rattle.fact_tables.specs.declared.version.Version.TheVariants.{Now}
+use Rattle.fact_tables.specs.declared.now_or_next.NowOrNext.TheVariants.{Now}
 use Rattle.fact_tables.proofs.IndexLemmas.{second_absent}
 use Rattle.fact_tables.proofs.TableLemmas.{listed_at}
 use Rattle.fact_tables.proofs.fact_tables.FactTables.last_seconds.Goals as goal

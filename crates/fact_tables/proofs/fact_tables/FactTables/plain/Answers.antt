@@ -1,7 +1,7 @@
 use Rattle.std.proofs.Common.{◌≡◌, ℕ, subst, arith}
 use Rattle.ucd_facts.specs.Uniform.{IsPlain}
 use Rattle.fact_tables.specs.FactTables.{facts_at}
-use Rattle.fact_tables.specs.declared.version.Version.TheVariants.{Now}
+use Rattle.fact_tables.specs.declared.now_or_next.NowOrNext.TheVariants.{Now}
 use Rattle.fact_tables.proofs.fact_tables.FactTables.plain.Goals as goal
 
 pub returns-then-is_plain-clause-stretch : goal.returns-then-is_plain-clause-stretch

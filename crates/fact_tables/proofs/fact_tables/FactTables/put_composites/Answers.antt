@@ -2,7 +2,7 @@ use Rattle.std.proofs.Common.{ℕ, List, ap, ◌∙◌}
 use Rattle.ucd_facts.specs.declared.query.Query.TheVariants.{Pair}
 use Rattle.fact_tables.specs.Changes.{is_among}
 use Rattle.fact_tables.specs.FactTables.{facts_at}
-use Rattle.fact_tables.specs.declared.version.Version.TheVariants.{Now, Next}
+use Rattle.fact_tables.specs.declared.now_or_next.NowOrNext.TheVariants.{Now, Next}
 use Rattle.fact_tables.proofs.ChangeLemmas.{gathers_more, told_grows}
 use Rattle.fact_tables.proofs.TableLemmas.{on_ok_map}
 use Rattle.fact_tables.proofs.fact_tables.FactTables.put_composites.Goals as goal

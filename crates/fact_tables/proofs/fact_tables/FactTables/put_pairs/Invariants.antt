@@ -2,7 +2,7 @@ use Rattle.std.proofs.Common.{◌≡◌, ℕ, true, take}
 use Rattle.ucd_facts.specs.declared.query.Query.TheVariants.{Pair}
 use Rattle.fact_tables.specs.Changes.{Gathers, IsTold, is_reached}
 use Rattle.fact_tables.specs.FactTables.{facts_at}
-use Rattle.fact_tables.specs.declared.version.Version.TheVariants.{Now, Next}
+use Rattle.fact_tables.specs.declared.now_or_next.NowOrNext.TheVariants.{Now, Next}
 use Rattle.fact_tables.proofs.fact_tables.FactTables.put_pairs.Given as goal
 
 -- the questions on the pairs before this one are told

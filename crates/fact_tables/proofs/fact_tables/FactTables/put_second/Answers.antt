@@ -1,7 +1,7 @@
 use Rattle.ucd_facts.specs.Composites.{second_of}
 use Rattle.ucd_facts.specs.declared.query.Query.TheVariants.{Second}
 use Rattle.fact_tables.specs.FactTables.{facts_at}
-use Rattle.fact_tables.specs.declared.version.Version.TheVariants.{Now, Next}
+use Rattle.fact_tables.specs.declared.now_or_next.NowOrNext.TheVariants.{Now, Next}
 use Rattle.fact_tables.proofs.ChangeLemmas.{gathers_put, told_put, decides_via}
 use Rattle.fact_tables.proofs.TableLemmas.{on_ok_map}
 use Rattle.fact_tables.proofs.fact_tables.FactTables.put_second.Goals as goal

@@ -4,7 +4,7 @@ use Rattle.std.proofs.lemmas.List.{take_all}
 use Rattle.ucd_facts.specs.Answers.{is_asked}
 use Rattle.ucd_facts.specs.declared.query.Query.{Query}
 use Rattle.fact_tables.specs.FactTables.{facts_at}
-use Rattle.fact_tables.specs.declared.version.Version.TheVariants.{Now, Next}
+use Rattle.fact_tables.specs.declared.now_or_next.NowOrNext.TheVariants.{Now, Next}
 use Rattle.fact_tables.proofs.ChangeLemmas.{done_more}
 use Rattle.fact_tables.proofs.fact_tables.FactTables.reached.Goals as goal
 

@@ -3,7 +3,7 @@ use Rattle.std.specs.List.{list_any}
 use Rattle.ucd_facts.specs.Facts.{within}
 use Rattle.fact_tables.specs.Changes.{IsDone, IsOnlyChanged}
 use Rattle.fact_tables.specs.FactTables.{facts_at}
-use Rattle.fact_tables.specs.declared.version.Version.TheVariants.{Now, Next}
+use Rattle.fact_tables.specs.declared.now_or_next.NowOrNext.TheVariants.{Now, Next}
 use Rattle.fact_tables.proofs.fact_tables.FactTables.reached.Given as goal
 
 -- the points of the spans before this one are done

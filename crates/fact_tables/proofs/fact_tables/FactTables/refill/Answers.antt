@@ -3,7 +3,7 @@ use Rattle.ucd_facts.specs.Facts.{Facts}
 use Rattle.fact_tables.specs.RowTables.{made_facts}
 use Rattle.point_store.specs.SlotStore.{values}
 use Rattle.fact_tables.specs.FactTables.{words_at, rests_at, facts_at}
-use Rattle.fact_tables.specs.declared.version.Version.TheVariants.{Now, Next}
+use Rattle.fact_tables.specs.declared.now_or_next.NowOrNext.TheVariants.{Now, Next}
 use Rattle.fact_tables.specs.KeptFactsLemmas.{same_kept}
 use Rattle.fact_tables.proofs.TableLemmas.{sound_same, sound_grows, sound_put, sound_at, put_point, stays_copied, on_ok, on_err_by}
 use Rattle.fact_tables.proofs.fact_tables.FactTables.refill.Goals as goal

@@ -2,7 +2,7 @@ use Rattle.std.proofs.Common.{ℕ, refl, ap, sym, ◌∙◌}
 use Rattle.ucd_facts.specs.Facts.{Facts}
 use Rattle.fact_tables.specs.FactTables.{words_at, rests_at}
 use Rattle.point_store.specs.SlotStore.{values}
-use Rattle.fact_tables.specs.declared.version.Version.TheVariants.{Now, Next}
+use Rattle.fact_tables.specs.declared.now_or_next.NowOrNext.TheVariants.{Now, Next}
 use Rattle.fact_tables.specs.KeptFactsLemmas.{same_kept}
 use Rattle.fact_tables.proofs.TableLemmas.{sound_same, sound_at}
 use Rattle.fact_tables.proofs.fact_tables.FactTables.sweep.Goals as goal
@@ -25,10 +25,10 @@ invariant_of-self g c =
 
 pub returns-clause-now : goal.returns-clause-now
 returns-clause-now g c =
-    c.list_anew.ensures.now
+    c.gather_pairs_anew.ensures.now
     ∙ same_kept (words_at Now c.args.self.now) (words_at Now c.args.self.now) (values g.T.Table.now c.sweep.new.self) (rests_at Now c.args.self.now) (λ k lt. refl) c.sweep.ensures.now
 
 pub returns-clause-next : goal.returns-clause-next
 returns-clause-next g c =
-    c.list_anew.ensures.next
+    c.gather_pairs_anew.ensures.next
     ∙ same_kept (words_at Next c.args.self.now) (words_at Next c.args.self.now) (values g.T.Table.next c.sweep.new.self) (rests_at Next c.args.self.now) (λ k lt. refl) c.sweep.ensures.next

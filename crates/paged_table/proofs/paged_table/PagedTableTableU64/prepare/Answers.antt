@@ -11,10 +11,10 @@ use Rattle.paged_table.proofs.paged_table.PagedTableTableU64.prepare.Goals as go
 pub returns-clause-ok : goal.returns-clause-ok
 returns-clause-ok c =
     let t = c.self.inside in
-    let mid = c.part_next.new.own in
+    let mid = c.make_own_blocks.new.own in
     let next = c.prepare_span.new.next in
     let span = c.args.span in
-    let own : mid.items ≡ blocks_next t.committed.items t.prepared.items = c.in_ok-part_next.ensures.own ∙ ap (λ xs. blocks_next xs t.prepared.items) c.deref.ensures.value in
+    let own : mid.items ≡ blocks_next t.committed.items t.prepared.items = c.in_ok-make_own_blocks.ensures.own ∙ ap (λ xs. blocks_next xs t.prepared.items) c.deref.ensures.value in
     let count : length mid.items ≡ 4352 = ap length own ∙ c.self.invariant.0.count_next in
     let size = c.prepare_span.ensures.apart.count_next in
     let len : length next ≡ mid.len = omega (arith, count, size) in
@@ -33,10 +33,10 @@ returns-clause-ok c =
 pub returns-clause-err : goal.returns-clause-err
 returns-clause-err c =
     let t = c.self.inside in
-    let mid = c.part_next.new.own in
+    let mid = c.make_own_blocks.new.own in
     let next = c.prepare_span.new.next in
     let span = c.args.span in
-    let own : mid.items ≡ blocks_next t.committed.items t.prepared.items = c.in_ok-part_next.ensures.own ∙ ap (λ xs. blocks_next xs t.prepared.items) c.deref.ensures.value in
+    let own : mid.items ≡ blocks_next t.committed.items t.prepared.items = c.in_ok-make_own_blocks.ensures.own ∙ ap (λ xs. blocks_next xs t.prepared.items) c.deref.ensures.value in
     let count : length mid.items ≡ 4352 = ap length own ∙ c.self.invariant.0.count_next in
     let size = c.prepare_span.ensures.apart.count_next in
     let len : length next ≡ mid.len = omega (arith, count, size) in
@@ -55,10 +55,10 @@ returns-clause-err c =
 pub invariant_of-self-2 : goal.invariant_of-self-2
 invariant_of-self-2 c =
     let t = c.self.inside in
-    let mid = c.part_next.new.own in
+    let mid = c.make_own_blocks.new.own in
     let next = c.prepare_span.new.next in
     let span = c.args.span in
-    let own : mid.items ≡ blocks_next t.committed.items t.prepared.items = c.in_ok-part_next.ensures.own ∙ ap (λ xs. blocks_next xs t.prepared.items) c.deref.ensures.value in
+    let own : mid.items ≡ blocks_next t.committed.items t.prepared.items = c.in_ok-make_own_blocks.ensures.own ∙ ap (λ xs. blocks_next xs t.prepared.items) c.deref.ensures.value in
     let count : length mid.items ≡ 4352 = ap length own ∙ c.self.invariant.0.count_next in
     let size = c.prepare_span.ensures.apart.count_next in
     let len : length next ≡ mid.len = omega (arith, count, size) in

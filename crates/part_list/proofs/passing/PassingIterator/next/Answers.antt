@@ -7,8 +7,8 @@ use Rattle.part_list.proofs.passing.PassingIterator.next.Goals as goal
 
 pub returns-in-Some-clause-steps : goal.returns-in-Some-clause-steps
 returns-in-Some-clause-steps g c =
-    next_left (g.S.Seek.passing c.parts.self-inside.seek.now) c.parts.self-inside.entries.now (flat (drop c.parts.self-inside.slot (parts_next c.parts.self-inside.parts.now))) c.behind-self-inside.result.now c.args.self.now c.in-Some.at c.index-self-at.result
-    c.parts.invariant.left c.in-Some.ensures.0 c.in-Some.ensures.1 c.behind-self-inside.ensures
+    next_left (g.S.Seek.passing c.parts.self-inside.seek.now) c.parts.self-inside.entries.now (flat (drop c.parts.self-inside.slot (parts_next c.parts.self-inside.parts.now))) c.entries_after-self-inside.result.now c.args.self.now c.in-Some.at c.index-self-at.result
+    c.parts.invariant.left c.in-Some.ensures.0 c.in-Some.ensures.1 c.entries_after-self-inside.ensures
 
 pub returns-in-Some-clause-goes : goal.returns-in-Some-clause-goes
 returns-in-Some-clause-goes g c =

@@ -12,4 +12,4 @@ returns-in-Ok g c =
 pub returns-in-Err : goal.returns-in-Err
 returns-in-Err g c =
     rw (← c.self.view_is) (unnamed_asked c.self.inside.release.now.current c.self.inside.names.now.aliases (index_holds g.B.Records.record_of c.self.inside.index) (tree_view c.args.tree.now) c.self.invariant
-    c.in-Err.stop c.unnamed.result c.in-Err.ensures c.unnamed.ensures)
+    c.in-Err.stop c.stop_of_names.result c.in-Err.ensures c.stop_of_names.ensures)

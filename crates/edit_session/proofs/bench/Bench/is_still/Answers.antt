@@ -1,6 +1,0 @@
-use Rattle.std.proofs.Common.{subst}
-use Rattle.edit_session.specs.Benches.{HasNothingPrepared}
-use Rattle.edit_session.proofs.bench.Bench.is_still.Goals as goal
-
-pub returns : goal.returns
-returns c = subst HasNothingPrepared c.release.ensures.same c.release.ensures.still

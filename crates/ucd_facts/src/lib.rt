@@ -18,7 +18,7 @@ mod image;
 mod property;
 mod query;
 mod row;
-mod same_facts;
+mod sameness;
 mod sets;
 mod uniform;
 mod view;
@@ -36,7 +36,7 @@ pub use query::{Queries, Query};
 pub use row::{
     AliasRow, CasingRow, DataRow, ExclusionRow, FoldRow, FoldStatus, OtherFields, Row, ValueRow,
 };
-pub use same_facts::same_facts;
+pub use sameness::same_facts;
 pub use sets::{CoreSet, Flags};
 pub use ucd_points::{
     Copied, FILE_LIMIT, ListOf, Memory, Point, Points, SOURCE_FILES, SourceFile, Span, Spans, Text,

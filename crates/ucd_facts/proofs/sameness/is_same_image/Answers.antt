@@ -2,7 +2,7 @@ use Rattle.std.proofs.Common.{◌≡◌, ◌∙◌, sym, ap}
 use Rattle.std.proofs.lemmas.Slice.Eq.{bytes_eq-Decides}
 use Rattle.ucd_facts.specs.Shown.{image_shown}
 use Rattle.ucd_facts.specs.declared.image.Image.TheVariants.{To}
-use Rattle.ucd_facts.proofs.same_facts.is_same_image.Goals as goal
+use Rattle.ucd_facts.proofs.sameness.is_same_image.Goals as goal
 
 pub returns-in-Some-Some-clause-equal : goal.returns-in-Some-Some-clause-equal
 returns-in-Some-Some-clause-equal c = λ h.

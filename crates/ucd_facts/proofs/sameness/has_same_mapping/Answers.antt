@@ -1,7 +1,7 @@
 use Rattle.std.proofs.Common.{◌∙◌, sym, ap}
 use Rattle.std.proofs.lemmas.Slice.Eq.{bytes_eq-Decides}
 use Rattle.ucd_facts.specs.Facts.{Facts}
-use Rattle.ucd_facts.proofs.same_facts.has_same_mapping.Goals as goal
+use Rattle.ucd_facts.proofs.sameness.has_same_mapping.Goals as goal
 
 pub returns-clause-mapping : goal.returns-clause-mapping
 returns-clause-mapping c = λ h. (bytes_eq-Decides c.args.a.now.mapping.now c.args.b.now.mapping.now).0 (sym c.eq.ensures ∙ h)

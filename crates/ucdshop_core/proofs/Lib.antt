@@ -1,9 +1,5 @@
-pub mod VerdictLemmas
 pub mod PathLemmas
 pub mod LineLemmas
 pub mod PlanningLemmas
-pub mod PolicyLemmas
-pub mod CarryingLemmas
-pub mod CountingLemmas
 pub mod MakingLemmas
 pub mod SessionLemmas

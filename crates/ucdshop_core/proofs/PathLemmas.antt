@@ -10,13 +10,13 @@ use Rattle.run_endings.specs.Endings.{NewFile}
 use Rattle.run_endings.specs.Paths.{path_in}
 use Rattle.stability_policies.specs.declared.breaks.Break.{Break}
 use Rattle.run_endings.specs.PathProofs.{all_apart, apart_below, others_from, others_of, paths_of, put_others, put_own}
-use Rattle.ucdshop_core.specs.Jobs.{Job, apply_job, compare_job, derive_job, form, made_paths, make_form, make_job, output_paths, part_paths}
-use Rattle.ucdshop_core.specs.Making.{number_of}
-use Rattle.ucdshop_core.specs.Run.{made_files, new_files, part_files}
-use Rattle.ucdshop_core.specs.Session.{Session}
+use Rattle.ucdshop_jobs.specs.Jobs.{Job, apply_job, compare_job, derive_job, form, made_paths, make_form, make_job, output_paths, part_paths}
+use Rattle.ucdshop_jobs.specs.Making.{number_of}
+use Rattle.ucdshop_jobs.specs.Run.{made_files, new_files, part_files}
+use Rattle.ucdshop_jobs.specs.Session.{Session}
 use Rattle.ucdshop_core.specs.OutputLaws.{PathsAreOfTheWords, OutputsHoldTheirBytes, OtherPathsStay}
-use Rattle.ucdshop_core.specs.declared.job.Part.{Part}
-use Rattle.ucdshop_core.specs.declared.job.Part.TheVariants.{Sources, Derived, Log, Sets, Report, Made}
+use Rattle.ucdshop_jobs.specs.declared.job.Part.{Part}
+use Rattle.ucdshop_jobs.specs.declared.job.Part.TheVariants.{Sources, Derived, Log, Sets, Report, Made}
 
 -- ---- a part has the paths of the words
 

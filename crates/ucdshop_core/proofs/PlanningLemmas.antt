@@ -1,20 +1,20 @@
 -- What a run makes before it writes, from the verdict on what it works on.
 use Rattle.std.proofs.Common.{◌≡◌, ◌≤◌, ◌||◌, nat_lt, Bool, List, length, ℕ, map, Option, Some, None, Result, Ok, Err, refl, sym, ap, subst, ◌∙◌, IfOk}
 use Rattle.release_rows.specs.FileItems.{FileItem}
-use Rattle.ucdshop_core.specs.Judging.{given_verdict, inputs_of}
-use Rattle.ucdshop_core.specs.Making.{data_rows}
+use Rattle.ucdshop_jobs.specs.Judging.{given_verdict, inputs_of}
+use Rattle.ucdshop_jobs.specs.Making.{data_rows}
 use Rattle.ucdshop_core.specs.Planning.{CountsRows}
 use Rattle.run_endings.specs.Planning.{IsPlanOf, OnRefused, PlansAs}
 use Rattle.run_endings.specs.Reading.{IsRead}
 use Rattle.run_inputs.specs.Judging.{ToldAs}
 use Rattle.stability_policies.specs.declared.breaks.Break.{Break}
 use Rattle.run_endings.specs.Endings.{Contents, Ending, Expected, Finishes, NewFile, Refuses, Sees, WritesItsPaths}
-use Rattle.ucdshop_core.specs.Jobs.{Job, needed, output_paths}
-use Rattle.ucdshop_core.specs.Run.{Inputs, breaks_since, ending_of, expected_of, inputs_ending, job_verdict, judged, new_files, summary_of, ucdshop}
-use Rattle.ucdshop_core.specs.Session.{Session, session}
-use Rattle.ucdshop_core.specs.declared.given.Given.{Given}
-use Rattle.ucdshop_core.specs.declared.inputs.Inputs.{Inputs as InputsMade}
-use Rattle.ucdshop_core.proofs.VerdictLemmas.{Decides, read_decides}
+use Rattle.ucdshop_jobs.specs.Jobs.{Job, needed, output_paths}
+use Rattle.ucdshop_jobs.specs.Run.{Inputs, breaks_since, ending_of, expected_of, inputs_ending, job_verdict, judged, new_files, summary_of, ucdshop}
+use Rattle.ucdshop_jobs.specs.Session.{Session, session}
+use Rattle.ucdshop_jobs.specs.declared.given.Given.{Given}
+use Rattle.ucdshop_jobs.specs.declared.inputs.Inputs.{Inputs as InputsMade}
+use Rattle.ucdshop_jobs.specs.VerdictLemmas.{Decides, read_decides}
 use Rattle.ucdshop_core.proofs.PathLemmas.{paths_are_of_the_words}
 use Rattle.run_endings.specs.declared.plan.Plan.{Plan}
 use Rattle.run_endings.specs.declared.stop.Stop.{Stop}

@@ -9,7 +9,7 @@ use Rattle.edit_session.specs.Groups.{group_answer}
 use Rattle.edit_session.specs.declared.apply_stop.Refused.{Refused}
 use Rattle.ucd_points.specs.Bounds.{Bounds}
 use Rattle.set_answers.specs.Questions.{question_answer}
-use Rattle.ucdshop_core.specs.Session.{Session, after_group, after_question, changed_count, started, step, step_by, session}
+use Rattle.ucdshop_jobs.specs.Session.{Session, after_group, after_question, changed_count, started, step, step_by, session}
 use Rattle.ucdshop_core.specs.SessionLaws.{IsRefusedOn, with_refusal, SameButTold, RefusalsChangeNothing, RefusalsAreLeftOut}
 use Rattle.set_answers.specs.SetTexts.{set_section}
 use Rattle.set_answers.specs.declared.ask_stop.AskFault.{AskFault}

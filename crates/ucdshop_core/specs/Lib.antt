@@ -1,17 +1,5 @@
-pub mod Printed
-pub mod Paths
-pub mod Session
 pub mod SessionLaws
-pub mod Making
-pub mod Jobs
-pub mod Run
 pub mod OutputLaws
 pub mod LineLaws
-pub mod JobWords
-pub mod Judging
-pub mod Counting
-pub mod Carrying
-pub mod Answering
 pub mod Planning
-pub mod CutProofs
 pub mod RunExamples

@@ -6,9 +6,9 @@
 use Rattle.std.specs.Prelude.{◌≡◌, ◌≢◌, ℕ, List, All, map, Some}
 use Rattle.stability_policies.specs.declared.breaks.Break.{Break}
 use Rattle.run_endings.specs.Endings.{Contents, NewFile, after}
-use Rattle.ucdshop_core.specs.Jobs.{Job, form, output_paths}
-use Rattle.ucdshop_core.specs.Run.{new_files}
-use Rattle.ucdshop_core.specs.Session.{Session}
+use Rattle.ucdshop_jobs.specs.Jobs.{Job, form, output_paths}
+use Rattle.ucdshop_jobs.specs.Run.{new_files}
+use Rattle.ucdshop_jobs.specs.Session.{Session}
 
 abbrev pub PathsAreOfTheWords : Type 0
 PathsAreOfTheWords = (job : Job) (s : Session) (breaks : List Break) → map (λ (file : NewFile). file.path) (new_files job s breaks) ≡ output_paths job

@@ -2,7 +2,7 @@
 -- CountsRows made rows files      where a release is made, UnicodeData.txt has so many rows among these files
 use Rattle.std.specs.Prelude.{◌≡◌, ℕ, List, Option, Some, None, ⊤}
 use Rattle.release_rows.specs.FileItems.{FileItem}
-use Rattle.ucdshop_core.specs.Making.{data_rows}
+use Rattle.ucdshop_jobs.specs.Making.{data_rows}
 
 abbrev pub CountsRows : Option ℕ → ℕ → List (List FileItem) → Type 0
 CountsRows None rows files = ⊤

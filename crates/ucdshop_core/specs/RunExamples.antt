@@ -15,10 +15,10 @@ use Rattle.run_endings.specs.Endings.{NoForm, Refuses, Seen, expected, needed}
 use Rattle.run_endings.specs.Printed.{read_failed, write_failed}
 use Rattle.run_inputs.specs.GroupLines.{accepted_line, refused_line}
 use Rattle.run_inputs.specs.Verdict.{file_verdict}
-use Rattle.ucdshop_core.specs.Jobs.{apply_job, compare_job, derive_job, form, make_job, output_paths}
-use Rattle.ucdshop_core.specs.Printed.{made_release, made_summary, summary}
-use Rattle.ucdshop_core.specs.Run.{ucdshop}
-use Rattle.ucdshop_core.specs.Session.{set_line, unasked_line}
+use Rattle.ucdshop_jobs.specs.Jobs.{apply_job, compare_job, derive_job, form, make_job, output_paths}
+use Rattle.ucdshop_jobs.specs.Printed.{made_release, made_summary, summary}
+use Rattle.ucdshop_jobs.specs.Run.{ucdshop}
+use Rattle.ucdshop_jobs.specs.Session.{set_line, unasked_line}
 use Rattle.set_answers.specs.declared.ask_stop.AskRule.TheVariants.{Name, Text}
 
 abbrev words : List ℕ → List (List ℕ)

@@ -14,7 +14,7 @@ use Rattle.edit_session.specs.Groups.{group_answer}
 use Rattle.edit_session.specs.declared.apply_stop.Refused.{Refused}
 use Rattle.set_answers.specs.Questions.{question_answer}
 use Rattle.run_inputs.specs.GroupLines.{log_line, refusal_text}
-use Rattle.ucdshop_core.specs.Session.{Session, step, session}
+use Rattle.ucdshop_jobs.specs.Session.{Session, step, session}
 use Rattle.set_answers.specs.Refusals.{unasked_text}
 use Rattle.set_answers.specs.declared.ask_stop.AskFault.{AskFault}
 

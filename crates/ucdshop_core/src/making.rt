@@ -4,7 +4,7 @@ ghost use Rattle.std.specs.Prelude.{◌≡◌, ℕ, ◌≤◌, IfOk, is_some};
 ghost use Rattle.edit_session.specs.Benches.{bench_record};
 ghost use Rattle.ucd_model.specs.DerivedFiles.{casefold_listing};
 ghost use Rattle.ucd_model.specs.Records.{kept_record};
-ghost use Rattle.ucdshop_core.specs.Making.{casefolds, data_rows};
+ghost use Rattle.ucdshop_jobs.specs.Making.{casefolds, data_rows};
 
 use edit_session::Bench;
 use point_stretches::count_passing;

@@ -2,15 +2,13 @@
 
 ghost use Rattle.std.specs.Prelude.{◌≡◌, ℕ, ◌∷◌, ◌++◌, [], IfOk, OnOk, map};
 ghost use Rattle.ucd_points.specs.SourceFiles.{source_files};
-ghost use Rattle.ucdshop_core.specs.Carrying.{session_of};
-ghost use Rattle.ucdshop_core.specs.JobWords.{job_of};
+ghost use Rattle.ucdshop_jobs.specs.Carrying.{session_of};
+ghost use Rattle.ucdshop_jobs.specs.JobWords.{job_of};
 ghost use Rattle.run_endings.specs.Planning.{HaveLines, Puts};
 ghost use Rattle.run_endings.specs.Printed.{write_failed};
-ghost use Rattle.ucdshop_core.specs.Run.{log_file, made_file, made_files, made_script, new_files, part_files, policy_file, sets_file};
+ghost use Rattle.ucdshop_jobs.specs.Run.{log_file, made_file, made_files, made_script, new_files, part_files, policy_file, sets_file};
 ghost use Rattle.run_endings.specs.Writing.{file_of, files_of};
 
-use crate::carried::Carried;
-use crate::job::{Job, Part};
 use edit_session::Bench;
 use release_maker::Made;
 use run_endings::{Output, path_in, put_text};
@@ -18,6 +16,7 @@ use run_inputs::{put_derived, put_sources};
 use stability_policies::{Breaks, report_text};
 use std::alloc::Global;
 use ucd_model::{Memory, SOURCE_FILES, SourceFile, Text};
+use ucdshop_jobs::{Carried, Job, Part};
 
 /// What the outputs of a run are made of.
 #[derive(Clone, Copy)]
@@ -140,7 +139,7 @@ fn put_made_files(
 }
 
 /// A source file of a release that is made below a folder.
-#[tactic(auto, unfolding(crate::specs::Run::made_text))]
+#[tactic(auto, unfolding(ucdshop_jobs::specs::Run::made_text))]
 fn made_output(
     alloc: Global,
     folder: &[u8],

@@ -4,7 +4,7 @@ ghost use Rattle.std.specs.Prelude.{◌≡◌, ◌≢◌};
 ghost use Rattle.shelf_io.specs.Counts.{Rose};
 ghost use Rattle.shelf_io.specs.Folders.{held_in};
 ghost use Rattle.run_endings.specs.Outcome.{WrittenWhole};
-ghost use Rattle.ucdshop_core.specs.Run.{ucdshop};
+ghost use Rattle.ucdshop_jobs.specs.Run.{ucdshop};
 
 use crate::program::run;
 use run_endings::Status;

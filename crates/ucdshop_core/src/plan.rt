@@ -1,20 +1,18 @@
 //! What a run writes and tells, made before anything is written.
 
 ghost use Rattle.std.specs.Prelude.{◌≡◌, ◌||◌, IfOk, length, nat_lt};
-ghost use Rattle.ucdshop_core.specs.Carrying.{session_of};
-ghost use Rattle.ucdshop_core.specs.JobWords.{job_of};
+ghost use Rattle.ucdshop_jobs.specs.Carrying.{session_of};
+ghost use Rattle.ucdshop_jobs.specs.JobWords.{job_of};
 ghost use Rattle.run_endings.specs.Planning.{HasPlan};
-ghost use Rattle.ucdshop_core.specs.Run.{ending_of, summary_of};
+ghost use Rattle.ucdshop_jobs.specs.Run.{ending_of, summary_of};
 
-use crate::carried::Carried;
-use crate::job::Job;
 use crate::making::count_casefolds;
 use crate::outputs::{Work, outputs_of};
-use crate::summary_lines::{MadeCounts, RunCounts, made_summary, summary};
 use run_endings::Plan;
 use stability_policies::Breaks;
 use std::alloc::Global;
 use ucd_model::{Memory, Text};
+use ucdshop_jobs::{Carried, Job, MadeCounts, RunCounts, made_summary, summary};
 
 /// The files that a job writes, and its summary. At the beginning UnicodeData.txt had so many rows.
 ///

@@ -2,29 +2,23 @@
 
 ghost use Rattle.std.specs.Prelude.{◌≡◌, ◌≤◌, [], IfOk, None, Some, length};
 ghost use Rattle.std.specs.List.{All};
-ghost use Rattle.ucdshop_core.specs.JobWords.{IsListed, job_of};
-ghost use Rattle.ucdshop_core.specs.Counting.{FormCounts, StepsWithoutScript, SessionCounts, StopCounts, VerdictCounts};
-ghost use Rattle.ucdshop_core.specs.Judging.{IsMadeForJob, given_verdict, inputs_of};
+ghost use Rattle.ucdshop_jobs.specs.JobWords.{IsListed, job_of};
+ghost use Rattle.ucdshop_jobs.specs.Counting.{FormCounts, StepsWithoutScript, SessionCounts, StopCounts, VerdictCounts};
+ghost use Rattle.ucdshop_jobs.specs.Judging.{IsMadeForJob, given_verdict, inputs_of};
 ghost use Rattle.ucdshop_core.specs.Planning.{CountsRows};
 ghost use Rattle.run_endings.specs.Planning.{HasPlan, IsPlanOf, OnRefused, OnlyRead, PlansAs, UnreadAs};
 ghost use Rattle.run_endings.specs.Promises.{shelf_seen};
 ghost use Rattle.run_endings.specs.Reading.{IsRead};
 ghost use Rattle.std.specs.Option.{option_map};
 ghost use Rattle.run_endings.specs.Endings.{Refuses, Sees};
-ghost use Rattle.ucdshop_core.specs.Run.{expected_of, inputs_ending, job_verdict, judged};
-ghost use Rattle.ucdshop_core.specs.Jobs.{needed};
+ghost use Rattle.ucdshop_jobs.specs.Run.{expected_of, inputs_ending, job_verdict, judged};
+ghost use Rattle.ucdshop_jobs.specs.Jobs.{needed};
 ghost use Rattle.script_lines.specs.Groups.{IsWellFormed};
-ghost use Rattle.ucdshop_core.specs.Session.{started};
+ghost use Rattle.ucdshop_jobs.specs.Session.{started};
 
-use crate::carrying::carry_out;
-use crate::given::{Given, given_of_made_release};
-use crate::inputs::{Inputs, judge_inputs};
-use crate::job::Job;
 use crate::making::count_data_rows;
-use crate::needed::needed_paths;
 use crate::outputs::Work;
 use crate::plan::plan_of;
-use crate::policies::breaks_since;
 use edit_session::Bench;
 use release_maker::Made;
 use run_endings::{Plan, Stop, make_room, read_inputs};
@@ -33,6 +27,9 @@ use shelf_io::Shelf;
 use std::alloc::Global;
 use std::sync::ledger::Ledger;
 use ucd_model::{Memory, Steps};
+use ucdshop_jobs::{
+    Given, Inputs, Job, breaks_since, carry_out, given_of_made_release, judge_inputs, needed_paths,
+};
 
 /// Carries out the commands of a script, and makes the files that are then written, and the summary.
 fn plan_inputs<L: Ledger>(

@@ -4,12 +4,11 @@ ghost use Rattle.std.specs.Prelude.{◌≡◌};
 ghost use Rattle.run_endings.specs.Endings.{Sees, paths_read};
 ghost use Rattle.run_endings.specs.Ends.{HasRoom, Plans};
 ghost use Rattle.run_endings.specs.Promises.{Promises, shelf_seen, sink_seen};
-ghost use Rattle.ucdshop_core.specs.Counting.{FormCounts, FormStepsWithoutScript, PlannedCounts, StatusCounts};
-ghost use Rattle.ucdshop_core.specs.Run.{ucdshop};
-ghost use Rattle.ucdshop_core.specs.Jobs.{form};
+ghost use Rattle.ucdshop_jobs.specs.Counting.{FormCounts, FormStepsWithoutScript, PlannedCounts, StatusCounts};
+ghost use Rattle.ucdshop_jobs.specs.Run.{ucdshop};
+ghost use Rattle.ucdshop_jobs.specs.Jobs.{form};
 
 use crate::planning::prepare;
-use crate::summary_lines::USAGE;
 use crate::words::job_of;
 use run_endings::{Plan, Status, Stop, end_run};
 use shelf_io::{Shelf, Sink};
@@ -17,6 +16,10 @@ use std::alloc::Global;
 use std::marker::Brand;
 use std::sync::ledger::{Blank, Ledger};
 use ucd_model::{Steps, Texts};
+
+/// The line for words that have no listed form.
+const USAGE: &[u8] =
+    b"usage: ucdshop derive DATA OUT | apply DATA SCRIPT OUT [PREVIOUS] | make NUMBER OUT\n";
 
 /// Runs the program on its words, without the program's name: reads what they name from the shelf, writes the files
 /// that it makes to it, and tells one line to the sink.

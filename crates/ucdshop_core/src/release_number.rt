@@ -2,7 +2,7 @@
 
 ghost use Rattle.std.specs.Prelude.{◌≡◌, ◌≤◌, ◌∷◌, []};
 ghost use Rattle.ucd_points.specs.Fields.{is_digit};
-ghost use Rattle.ucdshop_core.specs.Making.{limited, number_of, IsInRange};
+ghost use Rattle.ucdshop_jobs.specs.Making.{limited, number_of, IsInRange};
 
 /// The number from 1 to 50 that one or two digits write without a leading zero; `None` for all other words.
 pub fn number_of(word: &[u8]) -> Option<u8>

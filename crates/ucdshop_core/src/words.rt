@@ -2,13 +2,13 @@
 
 ghost use Rattle.std.specs.Prelude.{◌≡◌, ◌∷◌, [], ⊤};
 ghost use Rattle.std.specs.Option.{MatchOption};
-ghost use Rattle.ucdshop_core.specs.JobWords.{AsksFor, IsListed, job_of};
-ghost use Rattle.ucdshop_core.specs.Jobs.{form, make_form};
-ghost use Rattle.ucdshop_core.specs.Making.{number_of};
+ghost use Rattle.ucdshop_jobs.specs.JobWords.{AsksFor, IsListed, job_of};
+ghost use Rattle.ucdshop_jobs.specs.Jobs.{form, make_form};
+ghost use Rattle.ucdshop_jobs.specs.Making.{number_of};
 
-use crate::job::Job;
 use crate::release_number::number_of;
 use ucd_model::Text;
+use ucdshop_jobs::Job;
 
 /// What the words ask for, and `None` exactly if they have no listed form.
 pub fn job_of(words: &[Text]) -> Option<Job<'_>>

@@ -23,7 +23,7 @@ use Rattle.script_lines.specs.declared.command.What.TheVariants.{Group, Question
 use Rattle.set_answers.specs.Questions.{question_answer}
 use Rattle.set_answers.specs.SetTexts.{members_text}
 use Rattle.set_answers.specs.declared.ask_stop.AskFault.{AskFault}
-use Rattle.ucdshop_core.specs.Session.{Session, after_group, after_question, started, step, step_by}
+use Rattle.ucdshop_jobs.specs.Session.{Session, after_group, after_question, started, step, step_by}
 use Rattle.ucdshop_look_core.specs.ChangeLaws.{StagesFollowTheSession}
 use Rattle.ucdshop_look_core.specs.Changes.{Stage, files_after, group_told, points_section, stage_on, stage_refused, stages, told, what_differs, what_leaves}
 use Rattle.ucdshop_look_core.specs.PointSpans.{AreInOrder, point_spans}

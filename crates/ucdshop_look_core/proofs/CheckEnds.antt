@@ -5,12 +5,12 @@ use Rattle.release_rows.specs.FileItems.{FileItem}
 use Rattle.run_inputs.specs.Held.{source_held}
 use Rattle.run_inputs.specs.Refusals.{folder_verdict}
 use Rattle.run_inputs.specs.Verdict.{and_then}
-use Rattle.ucdshop_core.specs.Jobs.{Job as Run, derive_job, session_parts}
-use Rattle.ucdshop_core.specs.Run.{Inputs, breaks_since, counts_of, inputs_verdict, judged}
-use Rattle.ucdshop_core.specs.Printed.{summary}
-use Rattle.ucdshop_core.specs.Session.{Session, session, started}
-use Rattle.ucdshop_core.specs.declared.job.Part.{Part}
-use Rattle.ucdshop_core.specs.declared.job.Part.TheVariants.{Report}
+use Rattle.ucdshop_jobs.specs.Jobs.{Job as Run, derive_job, session_parts}
+use Rattle.ucdshop_jobs.specs.Run.{Inputs, breaks_since, counts_of, inputs_verdict, judged}
+use Rattle.ucdshop_jobs.specs.Printed.{summary}
+use Rattle.ucdshop_jobs.specs.Session.{Session, session, started}
+use Rattle.ucdshop_jobs.specs.declared.job.Part.{Part}
+use Rattle.ucdshop_jobs.specs.declared.job.Part.TheVariants.{Report}
 use Rattle.ucdshop_look_core.specs.CheckLaws.{CheckEndsAsApply, CheckEndsAsDerive, TellsAlone, TellsFirst}
 use Rattle.ucdshop_look_core.specs.Checks.{broken_text, check_ending, refusals}
 use Rattle.ucdshop_look_core.specs.Jobs.{check_job}

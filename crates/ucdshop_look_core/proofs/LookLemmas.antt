@@ -10,7 +10,7 @@ use Rattle.run_endings.specs.declared.plan.Plan.{Plan}
 use Rattle.run_endings.specs.declared.stop.Stop.{Stop}
 use Rattle.run_endings.specs.declared.stop.Stop.TheVariants.{Refused, ReadFailed, Memory}
 use Rattle.run_inputs.specs.CutProofs.{cut_folder}
-use Rattle.ucdshop_core.specs.CutProofs.{cut_verdict}
+use Rattle.ucdshop_jobs.specs.CutProofs.{cut_verdict}
 use Rattle.ucdshop_look_core.proofs.NothingWritten.{ends_without_files}
 use Rattle.ucdshop_look_core.specs.Answers.{ask_ending}
 use Rattle.ucdshop_look_core.specs.Changes.{changes_ending}

@@ -9,7 +9,7 @@ use Rattle.run_endings.specs.declared.status.Status.{Status}
 use Rattle.run_endings.specs.declared.status.Status.TheVariants.{Clean, Done, BadWords, LoadRefused, ReadFault, WriteFault, Memory}
 use Rattle.run_inputs.specs.Held.{source_held}
 use Rattle.run_inputs.specs.Refusals.{folder_verdict}
-use Rattle.ucdshop_core.specs.Run.{inputs_verdict}
+use Rattle.ucdshop_jobs.specs.Run.{inputs_verdict}
 use Rattle.ucdshop_look_core.specs.Answers.{ask_ending}
 use Rattle.ucdshop_look_core.specs.Changes.{changes_ending}
 use Rattle.ucdshop_look_core.specs.Checks.{check_ending}

@@ -6,7 +6,7 @@ use Rattle.release_rows.specs.FileItems.{FileItem}
 use Rattle.script_lines.specs.declared.command.Command.{Command}
 use Rattle.edit_session.specs.Groups.{changed, files_facts}
 use Rattle.set_answers.specs.SetTexts.{members_in}
-use Rattle.ucdshop_core.specs.Session.{changed_count, session}
+use Rattle.ucdshop_jobs.specs.Session.{changed_count, session}
 use Rattle.ucdshop_look_core.specs.Changes.{stages}
 use Rattle.ucdshop_look_core.specs.PointSpans.{point_spans}
 

@@ -27,8 +27,8 @@ use Rattle.record_lines.specs.RecordTexts.{change_text}
 use Rattle.run_endings.specs.Endings.{Ending}
 use Rattle.run_inputs.specs.GroupLines.{refused_line}
 use Rattle.set_answers.specs.SetTexts.{members_text}
-use Rattle.ucdshop_core.specs.Run.{Inputs}
-use Rattle.ucdshop_core.specs.Session.{started, step_by}
+use Rattle.ucdshop_jobs.specs.Run.{Inputs}
+use Rattle.ucdshop_jobs.specs.Session.{started, step_by}
 use Rattle.ucdshop_look_core.specs.PointSpans.{point_spans}
 
 -- ---- a group

@@ -7,8 +7,8 @@
 -- CheckEndsAsDerive          `check` of a folder tells alone what `derive` tells, whatever is seen
 use Rattle.std.specs.Prelude.{◌≡◌, ℕ, List, ◌++◌, Option, Some, None}
 use Rattle.run_endings.specs.Endings.{Expected, Finishes, Refuses, Seen}
-use Rattle.ucdshop_core.specs.Jobs.{Job as Run, apply_job, compare_job, derive_job}
-use Rattle.ucdshop_core.specs.Run.{expected_of as run_expected}
+use Rattle.ucdshop_jobs.specs.Jobs.{Job as Run, apply_job, compare_job, derive_job}
+use Rattle.ucdshop_jobs.specs.Run.{expected_of as run_expected}
 use Rattle.ucdshop_look_core.specs.Jobs.{Check, check_job}
 use Rattle.ucdshop_look_core.specs.Run.{expected_of}
 

@@ -20,9 +20,9 @@ use Rattle.stability_policies.specs.ReportTexts.{policy_code}
 use Rattle.stability_policies.specs.Reports.{is_of}
 use Rattle.stability_policies.specs.declared.breaks.Break.{Break}
 use Rattle.stability_policies.specs.declared.policy.Policy.{Policy}
-use Rattle.ucdshop_core.specs.Printed.{summary}
-use Rattle.ucdshop_core.specs.Run.{Inputs, breaks_since, counts_of}
-use Rattle.ucdshop_core.specs.Session.{Session, session}
+use Rattle.ucdshop_jobs.specs.Printed.{summary}
+use Rattle.ucdshop_jobs.specs.Run.{Inputs, breaks_since, counts_of}
+use Rattle.ucdshop_jobs.specs.Session.{Session, session}
 
 abbrev pub tells_refusal : List ℕ → Bool
 tells_refusal line = starts_with eqb (after_first (λ b. b == 32) line) (codes "refused ")

@@ -2,7 +2,7 @@
 -- job_of command          the job that it stands for
 -- AsksFor command form    the command is there exactly where the form is, and stands for its job
 use Rattle.std.specs.Prelude.{◌≡◌, Option, Some, None}
-use Rattle.ucdshop_core.specs.JobWords.{job_of as run_of}
+use Rattle.ucdshop_jobs.specs.JobWords.{job_of as run_of}
 use Rattle.ucdshop_look_core.specs.Jobs.{Job, Ask, Changes, Check, Show}
 use Rattle.ucdshop_look_core.specs.Points.{points_in}
 use Rattle.ucdshop_look_core.specs.declared.command.Command.{Command}

@@ -16,7 +16,7 @@
 use Rattle.std.specs.Prelude.{ℕ, ◌&&◌, ◌==◌, Bool, not, List, [], ◌∷◌, length, Option, Some, None, nat_le, nat_lt, if◌then◌else◌, codes, bytes_eq}
 use Rattle.std.specs.List.{list_all}
 use Rattle.run_inputs.specs.Paths.{sources_in}
-use Rattle.ucdshop_core.specs.Jobs.{Job as Run, needed as run_needed}
+use Rattle.ucdshop_jobs.specs.Jobs.{Job as Run, needed as run_needed}
 use Rattle.ucdshop_look_core.specs.Points.{names_point, points_in}
 
 pub data Job : Type 0 where

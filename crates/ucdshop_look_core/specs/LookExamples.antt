@@ -12,7 +12,7 @@ use Rattle.release_rows.specs.declared.key_rule.KeyRule.TheVariants.{K1}
 use Rattle.edit_session.specs.declared.apply_stop.Refused.TheVariants.{Key}
 use Rattle.unicodeset_eval.specs.Members.{member_spans}
 use Rattle.set_answers.specs.SetTexts.{members_text}
-use Rattle.ucdshop_core.specs.Carrying.{question_command}
+use Rattle.ucdshop_jobs.specs.Carrying.{question_command}
 use Rattle.ucdshop_look_core.specs.Changes.{group_told, stages, told}
 use Rattle.ucdshop_look_core.specs.Checks.{refusals}
 use Rattle.ucdshop_look_core.specs.Jobs.{Ask, Changes, Check, Show, check_job, form}

@@ -8,7 +8,7 @@ use Rattle.std.specs.Prelude.{ℕ, List, [], Result, Ok, Err}
 use Rattle.run_endings.specs.Endings.{Ending, Expected, Finishes, Program, Refuses, Seen}
 use Rattle.run_inputs.specs.Held.{source_held}
 use Rattle.run_inputs.specs.Refusals.{folder_verdict}
-use Rattle.ucdshop_core.specs.Run.{inputs_verdict}
+use Rattle.ucdshop_jobs.specs.Run.{inputs_verdict}
 use Rattle.ucdshop_look_core.specs.Answers.{ask_ending}
 use Rattle.ucdshop_look_core.specs.Changes.{changes_ending}
 use Rattle.ucdshop_look_core.specs.Checks.{check_ending}

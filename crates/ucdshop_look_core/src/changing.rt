@@ -11,7 +11,7 @@ ghost use Rattle.script_lines.specs.Groups.{AreWellFormed, IsWellFormed};
 ghost use Rattle.script_lines.specs.declared.command.What.TheVariants.{Group};
 ghost use Rattle.set_answers.specs.SetTexts.{members_text};
 ghost use Rattle.ucd_model.specs.DerivedText.{line_end};
-ghost use Rattle.ucdshop_core.specs.Judging.{inputs_of};
+ghost use Rattle.ucdshop_jobs.specs.Judging.{inputs_of};
 ghost use Rattle.ucdshop_look_core.specs.Changes.{changes_ending, files_after, points_section, stage_on, stage_refused, stages, stages_ending, told, what_differs, what_leaves, what_refused, what_told};
 ghost use Rattle.ucdshop_look_core.specs.PointSpans.{AreInOrder, point_spans};
 
@@ -28,7 +28,7 @@ use std::alloc::Global;
 use std::sync::ledger::Ledger;
 use ucd_lines::put_decimal;
 use ucd_model::{Memory, Point, Records, Steps, Text};
-use ucdshop_core::Inputs;
+use ucdshop_jobs::Inputs;
 
 /// Carries out the groups of a script, and makes what `changes` tells of them. Questions are not answered.
 ///

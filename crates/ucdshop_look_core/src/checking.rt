@@ -6,9 +6,9 @@ ghost use Rattle.std.specs.Option.{option_map};
 ghost use Rattle.release_rows.specs.FileItems.{FileItem};
 ghost use Rattle.script_lines.specs.Groups.{IsWellFormed};
 ghost use Rattle.run_endings.specs.Planning.{HasPlan};
-ghost use Rattle.ucdshop_core.specs.Carrying.{session_of, session_on};
-ghost use Rattle.ucdshop_core.specs.Judging.{inputs_of};
-ghost use Rattle.ucdshop_core.specs.Session.{session};
+ghost use Rattle.ucdshop_jobs.specs.Carrying.{session_of, session_on};
+ghost use Rattle.ucdshop_jobs.specs.Judging.{inputs_of};
+ghost use Rattle.ucdshop_jobs.specs.Session.{session};
 ghost use Rattle.ucdshop_look_core.specs.Checks.{check_ending, check_text, session_ending};
 
 use crate::refusals::{put_broken, put_refusals};
@@ -19,7 +19,7 @@ use stability_policies::Breaks;
 use std::alloc::Global;
 use std::sync::ledger::Ledger;
 use ucd_model::{Memory, Steps, Text};
-use ucdshop_core::{Carried, Inputs, RunCounts, breaks_since, carry_out, summary};
+use ucdshop_jobs::{Carried, Inputs, RunCounts, breaks_since, carry_out, summary};
 
 /// Carries out the commands of a script, and makes what `check` tells of them.
 ///

@@ -3,14 +3,14 @@
 ghost use Rattle.std.specs.Prelude.{◌≡◌};
 ghost use Rattle.std.specs.List.{list_all};
 ghost use Rattle.std.specs.Option.{option_map};
-ghost use Rattle.ucdshop_core.specs.JobWords.{job_of, path_at};
+ghost use Rattle.ucdshop_jobs.specs.JobWords.{job_of, path_at};
 ghost use Rattle.ucdshop_look_core.specs.Commands.{AsksFor};
 ghost use Rattle.ucdshop_look_core.specs.Jobs.{are_some, ask_form, changes_form, check_form, check_job, form, is_one_line, show_form};
 ghost use Rattle.ucdshop_look_core.specs.Points.{names_point};
 
 use crate::points::named_point;
 use ucd_model::Text;
-use ucdshop_core::{Job, ScriptPlace};
+use ucdshop_jobs::{Job, ScriptPlace};
 
 /// The greatest number of questions of `ask`, and of code points of `show`.
 const ASKED_LIMIT: usize = 64;

@@ -7,8 +7,8 @@ ghost use Rattle.run_endings.specs.Promises.{shelf_seen};
 ghost use Rattle.run_endings.specs.Reading.{IsRead};
 ghost use Rattle.run_inputs.specs.Held.{source_held};
 ghost use Rattle.run_inputs.specs.Refusals.{folder_verdict};
-ghost use Rattle.ucdshop_core.specs.JobWords.{job_of as run_of};
-ghost use Rattle.ucdshop_core.specs.Run.{inputs_verdict};
+ghost use Rattle.ucdshop_jobs.specs.JobWords.{job_of as run_of};
+ghost use Rattle.ucdshop_jobs.specs.Run.{inputs_verdict};
 ghost use Rattle.ucdshop_look_core.specs.Answers.{ask_ending};
 ghost use Rattle.ucdshop_look_core.specs.Changes.{changes_ending};
 ghost use Rattle.ucdshop_look_core.specs.Checks.{check_ending};
@@ -29,7 +29,7 @@ use shelf_io::Shelf;
 use std::alloc::Global;
 use std::sync::ledger::Ledger;
 use ucd_model::{Memory, Steps, Text, Texts};
-use ucdshop_core::{Job, judge_inputs, needed_paths};
+use ucdshop_jobs::{Job, judge_inputs, needed_paths};
 
 /// Does all of a command that comes before its text is printed: all files are read before any is judged.
 ///

@@ -1,8 +1,8 @@
 use Rattle.std.proofs.Common.{[], take, flat_map}
 use Rattle.run_endings.specs.Planning.{Puts}
-use Rattle.ucdshop_core.specs.Carrying.{session_of}
-use Rattle.ucdshop_core.specs.JobWords.{job_of}
-use Rattle.ucdshop_core.specs.Run.{part_files}
+use Rattle.ucdshop_jobs.specs.Carrying.{session_of}
+use Rattle.ucdshop_jobs.specs.JobWords.{job_of}
+use Rattle.ucdshop_jobs.specs.Run.{part_files}
 use Rattle.ucdshop_core.proofs.outputs.outputs_of.Given as goal
 
 -- the parts so far, each file with its line

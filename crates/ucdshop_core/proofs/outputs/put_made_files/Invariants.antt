@@ -1,6 +1,6 @@
 use Rattle.std.proofs.Common.{take, map}
 use Rattle.run_endings.specs.Planning.{Puts}
-use Rattle.ucdshop_core.specs.Run.{made_file}
+use Rattle.ucdshop_jobs.specs.Run.{made_file}
 use Rattle.ucdshop_core.proofs.outputs.put_made_files.Given as goal
 
 -- the files so far, each with its line

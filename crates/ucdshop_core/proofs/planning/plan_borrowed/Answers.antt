@@ -1,9 +1,9 @@
 use Rattle.std.proofs.Common.{subst, IfOk, option_map}
-use Rattle.ucdshop_core.specs.JobWords.{job_of}
+use Rattle.ucdshop_jobs.specs.JobWords.{job_of}
 use Rattle.run_endings.specs.Planning.{HasPlan}
 use Rattle.run_endings.specs.Endings.{Ending}
-use Rattle.ucdshop_core.specs.Session.{started}
-use Rattle.ucdshop_core.proofs.CarryingLemmas.{session_counts_none}
+use Rattle.ucdshop_jobs.specs.Session.{started}
+use Rattle.ucdshop_jobs.specs.CarryingLemmas.{session_counts_none}
 use Rattle.ucdshop_core.proofs.PlanningLemmas.{ending_reached}
 use Rattle.ucdshop_core.proofs.planning.plan_borrowed.Goals as goal
 

@@ -1,6 +1,6 @@
-use Rattle.ucdshop_core.specs.JobWords.{job_of}
-use Rattle.ucdshop_core.specs.Judging.{given_verdict}
-use Rattle.ucdshop_core.proofs.CountingLemmas.{stop_opens, verdict_opened}
+use Rattle.ucdshop_jobs.specs.JobWords.{job_of}
+use Rattle.ucdshop_jobs.specs.Judging.{given_verdict}
+use Rattle.ucdshop_jobs.specs.CountingLemmas.{stop_opens, verdict_opened}
 use Rattle.ucdshop_core.proofs.PlanningLemmas.{stops_as}
 use Rattle.ucdshop_core.proofs.planning.plan_given.Goals as goal
 

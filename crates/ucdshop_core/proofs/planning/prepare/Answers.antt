@@ -1,6 +1,6 @@
 use Rattle.std.proofs.lemmas.Result.{err_from_is_err_and}
-use Rattle.ucdshop_core.specs.JobWords.{job_of}
-use Rattle.ucdshop_core.proofs.CountingLemmas.{unread_counts, unread_stops}
+use Rattle.ucdshop_jobs.specs.JobWords.{job_of}
+use Rattle.ucdshop_jobs.specs.CountingLemmas.{unread_counts, unread_stops}
 use Rattle.ucdshop_core.proofs.PlanningLemmas.{planned, refused}
 use Rattle.ucdshop_core.proofs.planning.prepare.Goals as goal
 

@@ -1,6 +1,6 @@
-use Rattle.ucdshop_core.specs.JobWords.{job_of}
+use Rattle.ucdshop_jobs.specs.JobWords.{job_of}
 use Rattle.ucdshop_core.proofs.PlanningLemmas.{reading_decides}
-use Rattle.ucdshop_core.proofs.VerdictLemmas.{made_decides}
+use Rattle.ucdshop_jobs.specs.VerdictLemmas.{made_decides}
 use Rattle.ucdshop_core.proofs.planning.texts_read_or_made.Goals as goal
 
 pub returns-in_ok-given_of_made_release-in-Some-clause-verdict : goal.returns-in_ok-given_of_made_release-in-Some-clause-verdict

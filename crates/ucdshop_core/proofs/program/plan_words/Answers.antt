@@ -1,9 +1,9 @@
 use Rattle.std.proofs.Common.{Some, refl, ap, sym, ◌∙◌}
 use Rattle.run_endings.specs.PreparedProofs.{prepares}
-use Rattle.ucdshop_core.specs.JobWords.{job_of}
-use Rattle.ucdshop_core.specs.Jobs.{form}
-use Rattle.ucdshop_core.specs.Run.{ucdshop}
-use Rattle.ucdshop_core.proofs.CountingLemmas.{form_counts, form_stops, formless_counts}
+use Rattle.ucdshop_jobs.specs.JobWords.{job_of}
+use Rattle.ucdshop_jobs.specs.Jobs.{form}
+use Rattle.ucdshop_jobs.specs.Run.{ucdshop}
+use Rattle.ucdshop_jobs.specs.CountingLemmas.{form_counts, form_stops, formless_counts}
 use Rattle.ucdshop_core.proofs.program.plan_words.Goals as goal
 
 pub returns-in-Some-clause-plans : goal.returns-in-Some-clause-plans

@@ -1,7 +1,7 @@
 use Rattle.run_endings.specs.PromiseProofs.{promises_are_kept}
-use Rattle.ucdshop_core.specs.Run.{ucdshop}
-use Rattle.ucdshop_core.specs.Jobs.{form}
-use Rattle.ucdshop_core.proofs.CountingLemmas.{ends_count}
+use Rattle.ucdshop_jobs.specs.Run.{ucdshop}
+use Rattle.ucdshop_jobs.specs.Jobs.{form}
+use Rattle.ucdshop_jobs.specs.CountingLemmas.{ends_count}
 use Rattle.ucdshop_core.proofs.PlanningLemmas.{writes_its_paths}
 use Rattle.ucdshop_core.proofs.program.run_counted.Goals as goal
 

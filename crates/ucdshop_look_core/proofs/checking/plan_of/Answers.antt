@@ -2,8 +2,8 @@ use Rattle.std.proofs.Common.{◌≡◌, ◌||◌, List, length, nat_lt, refl, s
 use Rattle.run_endings.specs.Planning.{HaveLines}
 use Rattle.run_endings.specs.Writing.{files_of}
 use Rattle.stability_policies.specs.declared.breaks.Break.{Break}
-use Rattle.ucdshop_core.specs.Carrying.{session_of}
-use Rattle.ucdshop_core.specs.Run.{breaks_since}
+use Rattle.ucdshop_jobs.specs.Carrying.{session_of}
+use Rattle.ucdshop_jobs.specs.Run.{breaks_since}
 use Rattle.ucdshop_look_core.specs.Checks.{check_text}
 use Rattle.ucdshop_look_core.proofs.checking.plan_of.Goals as goal
 

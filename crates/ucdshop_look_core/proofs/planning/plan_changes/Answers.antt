@@ -1,5 +1,5 @@
 use Rattle.std.proofs.Common.{ap}
-use Rattle.ucdshop_core.specs.Judging.{inputs_of}
+use Rattle.ucdshop_jobs.specs.Judging.{inputs_of}
 use Rattle.ucdshop_look_core.specs.Changes.{changes_ending}
 use Rattle.ucdshop_look_core.specs.Run.{finished}
 use Rattle.ucdshop_look_core.proofs.planning.plan_changes.Goals as goal

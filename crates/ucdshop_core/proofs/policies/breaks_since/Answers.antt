@@ -1,4 +1,0 @@
-use Rattle.ucdshop_core.proofs.policies.breaks_since.Goals as goal
-
-pub returns-in-Some : goal.returns-in-Some
-returns-in-Some c = rw c.in-Some.is c.breaks_between.ensures

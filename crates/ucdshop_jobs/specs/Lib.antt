@@ -1,0 +1,15 @@
+pub mod Printed
+pub mod Paths
+pub mod Session
+pub mod Making
+pub mod Jobs
+pub mod Run
+pub mod JobWords
+pub mod Judging
+pub mod Counting
+pub mod Carrying
+pub mod Answering
+pub mod CutProofs
+pub mod CarryingLemmas
+pub mod CountingLemmas
+pub mod VerdictLemmas

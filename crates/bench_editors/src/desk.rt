@@ -192,7 +192,7 @@ impl Desk {
             });
         }
         let keys = keys_of_ops(self.alloc, group)?;
-        match self.rows.first_after(keys.as_slice(), base) {
+        match self.rows.first_touched_after(keys.as_slice(), base) {
             Some(first) => Ok(Reply::Stale {
                 revision: self.rows.greatest(keys.as_slice()),
                 op: first as u32 + 1,

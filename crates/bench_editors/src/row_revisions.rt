@@ -49,7 +49,7 @@ impl RowRevisions {
     }
 
     /// The place of the first row that a revision after `base` touched.
-    pub fn first_after(&self, keys: &[RowKey], base: u32) -> Option<usize>
+    pub fn first_touched_after(&self, keys: &[RowKey], base: u32) -> Option<usize>
         ensures { result ≡ position
             (λ key. nat_lt base (last_in self.now (key_parts key))) keys.now }
     {

@@ -8,7 +8,7 @@ use crate::turns::{DATA, anew, are_changed, are_same, follows, is_as_opened, ope
 use bench_undo::{History, Undone};
 use edit_session::{ApplyStop, Bench};
 use release_rows::{Op, Release};
-use script_lines::{What, commands, groups_are_ready};
+use script_lines::{What, commands, groups_are_well_formed};
 use std::alloc::Global;
 use std::marker::Brand;
 use std::sync::ledger::{Blank, Ledger};
@@ -156,7 +156,7 @@ impl Copied {
         number: u32,
         steps: &mut Steps<L>,
     ) -> Result<bool, Fail> {
-        groups_are_ready();
+        groups_are_well_formed();
         let text = script(alloc, number)?;
         if text.len() > file_limit() {
             return Ok(false);

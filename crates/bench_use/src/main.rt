@@ -23,7 +23,7 @@ use property_aliases::Aliases;
 use release_rows::Op;
 use run_endings::{Stop, read_inputs};
 use run_inputs::{open_folder, source_paths};
-use script_lines::{Command, Commands, ScriptStop, What, commands, groups_are_ready};
+use script_lines::{Command, Commands, ScriptStop, What, commands, groups_are_well_formed};
 use shelf_io::{DiskShelf, Shelf, words_of};
 use std::alloc::Global;
 use std::marker::Brand;
@@ -98,7 +98,7 @@ fn error_of_stop(stop: Stop) -> Error {
 fn script(alloc: Global) -> Result<Commands, ScriptStop>
     ensures { IfOk result (All IsWellFormed) }
 {
-    groups_are_ready();
+    groups_are_well_formed();
     commands(alloc, SCRIPT)
 }
 

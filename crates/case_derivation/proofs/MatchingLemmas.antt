@@ -10,7 +10,7 @@ use Rattle.ucd_facts.specs.Facts.{Facts, image_points}
 use Rattle.ucd_facts.specs.declared.image.Image.{Image}
 use Rattle.ucd_facts.specs.declared.image.Image.TheVariants.{Same, To}
 use Rattle.ucd_facts.specs.Predicates.{cased}
-use Rattle.ucd_facts.specs.Unmapped.{is_same, is_unmapped}
+use Rattle.ucd_facts.specs.Unmapped.{is_same, is_unchanged_by_casing}
 use Rattle.case_derivation.specs.Matching.{matches}
 use Rattle.case_derivation.specs.Steps.{titled, title_image}
 
@@ -77,7 +77,7 @@ pub record StaysBy (G : Facts) : Type 0 where
   pub title : G.title ≡ Same
   pub fold : G.fold ≡ Same
 
-pub unmapped_stays : (G : Facts) → is_unmapped G ≡ true → StaysBy G
+pub unmapped_stays : (G : Facts) → is_unchanged_by_casing G ≡ true → StaysBy G
 unmapped_stays G e =
     let first = and_parts (is_same G.lower) (is_same G.upper && (is_same G.title && is_same G.fold)) e in
     let second = and_parts (is_same G.upper) (is_same G.title && is_same G.fold) first.1 in

@@ -1,5 +1,5 @@
 -- The laws of case mappings. The Unicode Standard, section 3.13, toUppercase to toCasefold.
--- CasemapsAreThree    Changes_When_Casemapped is Changes_When_Lowercased, Uppercased or Titlecased
+-- CasemappedIsAnyOfThree    Changes_When_Casemapped is Changes_When_Lowercased, Uppercased or Titlecased
 -- LowerOfJoined       what is mapped member by member has no context: the lower case of two joined lists is theirs, joined
 -- UpperOfJoined       so it is of the upper case
 -- FoldOfJoined        and of the folding
@@ -12,8 +12,8 @@ use Rattle.ucd_model.specs.Casing.{lower, upper, title, fold, title_of, lowers, 
 use Rattle.ucd_facts.specs.Facts.{Facts}
 use Rattle.ucd_facts.specs.Predicates.{cased}
 
-abbrev pub CasemapsAreThree : Type 0
-CasemapsAreThree = (F : ℕ → Facts) (c : ℕ) → changes_when casemaps F c ≡ (changes_when lowers F c || (changes_when uppers F c || changes_when titles F c))
+abbrev pub CasemappedIsAnyOfThree : Type 0
+CasemappedIsAnyOfThree = (F : ℕ → Facts) (c : ℕ) → changes_when casemaps F c ≡ (changes_when lowers F c || (changes_when uppers F c || changes_when titles F c))
 
 abbrev pub LowerOfJoined : Type 0
 LowerOfJoined = (F : ℕ → Facts) (s t : List ℕ) → lower F (s ++ t) ≡ lower F s ++ lower F t

@@ -12,13 +12,13 @@ use Rattle.ucd_facts.specs.Facts.{Facts}
 use Rattle.ucd_model.specs.Forms.{nfd}
 use Rattle.ucd_facts.specs.Predicates.{cased}
 use Rattle.ucd_facts.specs.declared.form.Bad.{Bad}
-use Rattle.case_derivation.specs.CasingLaws.{CasemapsAreThree, LowerOfJoined, UpperOfJoined, FoldOfJoined, TitleOfWord, TitleWithoutCased}
+use Rattle.case_derivation.specs.CasingLaws.{CasemappedIsAnyOfThree, LowerOfJoined, UpperOfJoined, FoldOfJoined, TitleOfWord, TitleWithoutCased}
 
 three : (F : ℕ → Facts) (r : Result (List ℕ) Bad) → where_form (casemaps F) r ≡ (where_form (lowers F) r || (where_form (uppers F) r || where_form (titles F) r))
 three F (Ok s) = refl
 three F (Err rule) = refl
 
-pub casemaps_are_three : CasemapsAreThree
+pub casemaps_are_three : CasemappedIsAnyOfThree
 casemaps_are_three F c = three F (nfd F (c ∷ []))
 
 pub lower_of_joined : LowerOfJoined

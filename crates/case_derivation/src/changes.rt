@@ -40,7 +40,7 @@ pub fn changes_when<W: FactView>(view: &W, nfd: &[Point]) -> Changes
     ensures mapped { result.mapped ≡ casemaps (W.facts_of view.now) nfd.now }
 {
     'unmapped: for (at, c) in nfd.iter().enumerate() {
-        if !view.is_unmapped(*c) {
+        if !view.is_unchanged_by_casing(*c) {
             let begun = has_cased(view, &nfd[..at]);
             let left = unmatched_after(all_unmatched(&nfd[at..], begun), *c, &view.facts(*c));
             return changes_after(view, left, &nfd[at + 1..]);

@@ -1,12 +1,12 @@
 //! The laws of case mappings: each function here does nothing, and its contract is a law.
 //! The Unicode Standard, section 3.13.
 
-ghost use Rattle.case_derivation.specs.CasingLaws.{CasemapsAreThree, LowerOfJoined, UpperOfJoined, FoldOfJoined, TitleOfWord, TitleWithoutCased};
+ghost use Rattle.case_derivation.specs.CasingLaws.{CasemappedIsAnyOfThree, LowerOfJoined, UpperOfJoined, FoldOfJoined, TitleOfWord, TitleWithoutCased};
 
 /// Changes_When_Casemapped is Changes_When_Lowercased, Changes_When_Uppercased and Changes_When_Titlecased together.
 /// UAX #44, section 5.3.
-pub fn casemaps_are_three()
-    ensures { CasemapsAreThree }
+pub fn casemapped_is_any_of_three()
+    ensures { CasemappedIsAnyOfThree }
 {}
 
 /// Two joined lists in lower case are the two lists in lower case, joined: no member's mapping depends on its

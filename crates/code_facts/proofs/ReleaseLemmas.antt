@@ -4,7 +4,7 @@ use Rattle.std.specs.List.{list_any}
 use Rattle.ucd_points.specs.Bounds.{Bounds}
 use Rattle.ucd_facts.specs.Facts.{Facts, Sources, facts, within}
 use Rattle.ucd_facts.specs.FactsLemmas.{facts_inside}
-use Rattle.release_rows.specs.Touching.{meets, RowsMeet}
+use Rattle.release_rows.specs.Touching.{meets, SpeakingRowsMeetSpans}
 use Rattle.fact_tables.specs.Copying.{with_spans}
 use Rattle.fact_tables.specs.KeptFacts.{all_kept, Packs}
 use Rattle.fact_tables.specs.KeptFactsLemmas.{point_below}
@@ -26,7 +26,7 @@ facts_by false F' F G H e made was = e ∙ was refl
 
 -- what is next once the tables of the rows that speak of touched code points were copied where those are
 pub put_facts : (t : RowTables) (rows : Sources) (spans : List Bounds) (words : ℕ → ℕ) (rests : ℕ → RestOf) (old : ℕ → Facts)
-    → ((c : ℕ) → c < 1114112 → all_kept words rests c ≡ with_spans old spans (made_facts t) c) → ((c : ℕ) → c < 1114112 → ShowsRows t (rows_within (meets spans) rows) c) → RowsMeet
+    → ((c : ℕ) → c < 1114112 → all_kept words rests c ≡ with_spans old spans (made_facts t) c) → ((c : ℕ) → c < 1114112 → ShowsRows t (rows_within (meets spans) rows) c) → SpeakingRowsMeetSpans
     → ((c : ℕ) → c < 1114112 → list_any (within c) spans ≡ false → old c ≡ facts rows c) → all_kept words rests ≡ facts rows
 put_facts t rows spans words rests old point shows meet outside =
     facts_from_points words rests rows (λ c lt. facts_by (list_any (within c) spans) (all_kept words rests c) (old c) (made_facts t c) (facts rows c) (point c lt)

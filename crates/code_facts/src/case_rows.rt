@@ -157,18 +157,18 @@ fn put(cases: &mut Cases, case: Case, image: GivenPoints)
     ensures { cases.new ≡ with_image case cases.old image }
 {
     match case {
-        Case::Fold(FoldStatus::C) => put_points(&mut cases.common, image),
-        Case::Fold(FoldStatus::F) => put_points(&mut cases.full, image),
-        Case::Fold(FoldStatus::S) => put_points(&mut cases.simple, image),
+        Case::Fold(FoldStatus::C) => put_points_if_none(&mut cases.common, image),
+        Case::Fold(FoldStatus::F) => put_points_if_none(&mut cases.full, image),
+        Case::Fold(FoldStatus::S) => put_points_if_none(&mut cases.simple, image),
         Case::Fold(FoldStatus::T) => {}
-        Case::Lower => put_points(&mut cases.lower, image),
-        Case::Title => put_points(&mut cases.title, image),
-        Case::Upper => put_points(&mut cases.upper, image),
+        Case::Lower => put_points_if_none(&mut cases.lower, image),
+        Case::Title => put_points_if_none(&mut cases.title, image),
+        Case::Upper => put_points_if_none(&mut cases.upper, image),
     }
 }
 
 /// Puts points in a place, unless some are given there.
-fn put_points(place: &mut GivenPoints, points: GivenPoints)
+fn put_points_if_none(place: &mut GivenPoints, points: GivenPoints)
     ensures { place.new ≡ first_some place.old points }
 {
     if place.points().is_none() {

@@ -13,7 +13,7 @@ use crate::row_lists::RowLists;
 use crate::row_tables::row_tables;
 use fact_tables::{FactTables, RowTables, disjoint_spans};
 use range_table::Table;
-use release_rows::{Release, rows_meet};
+use release_rows::{Release, speaking_rows_meet_spans};
 use std::alloc::Global;
 use ucd_facts::{Memory, Span, Spans};
 
@@ -67,9 +67,9 @@ impl<T: Table<u64>> FromRelease for FactTables<T> {
         if touched.as_slice().is_empty() {
             return Ok(());
         }
-        rows_meet();
+        speaking_rows_meet_spans();
         let spans = disjoint_spans(alloc, touched.as_slice())?;
-        let made = touching_tables(alloc, after, spans.as_slice())?;
+        let made = next_tables_touching(alloc, after, spans.as_slice())?;
         self.refill(alloc, &made, spans.as_slice())
     }
 }
@@ -89,11 +89,15 @@ fn tables_of(alloc: Global, release: &Release) -> Result<RowTables, Memory>
 /// The tables of the rows of a release next that speak of a code point in some of the spans.
 ///
 /// - `Memory`: memory ran out.
-fn touching_tables(alloc: Global, release: &Release, spans: &[Span]) -> Result<RowTables, Memory>
+fn next_tables_touching(
+    alloc: Global,
+    release: &Release,
+    spans: &[Span],
+) -> Result<RowTables, Memory>
     ensures { IfOk result (λ made. (c : ℕ) → c < 1114112
         → ShowsRows made (rows_within (meets spans.now) (rows_next release.now)) c) }
 {
-    let rows = RowLists::touching(alloc, release, spans)?;
+    let rows = RowLists::next_touching(alloc, release, spans)?;
     let made = row_tables(alloc, &rows)?;
     Ok(made)
 }

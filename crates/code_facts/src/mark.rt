@@ -35,20 +35,20 @@ impl Mark {
     }
 
     /// The bit of the mark in the word: bit 1, 2, or one of those of the flags, from 24 on.
-    pub fn word(self) -> u64
+    pub fn word_bit(self) -> u64
         ensures value { result ≡ word_of self }
         ensures below { result < 2 ^ 48 }
     {
         match self {
             Mark::Excluded => 2,
             Mark::MidWord => 4,
-            Mark::Flagged(flag) => flag_word(flag),
+            Mark::Flagged(flag) => flag_bit(flag),
         }
     }
 }
 
 /// The bit of a flag in the word.
-fn flag_word(flag: Flag) -> u64
+fn flag_bit(flag: Flag) -> u64
     ensures value { result ≡ 2 ^ (24 + flag_place flag) }
     ensures below { result < 2 ^ 48 }
 {

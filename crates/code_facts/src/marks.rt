@@ -21,7 +21,7 @@ use ucd_facts::{Flag, Memory, Span};
 /// The sum of the marks that these rows put on each code point. UAX #44, section 5.3; UAX #29, section 4.1.
 ///
 /// - `Memory`: memory ran out.
-pub fn marks(alloc: Global, rows: &RowLists<'_>) -> Result<RunTable<u64>, Memory>
+pub fn binary_facts(alloc: Global, rows: &RowLists<'_>) -> Result<RunTable<u64>, Memory>
     requires { AreValuesApart rows.now.word_break.items }
     ensures { IfOk result (λ table. SameValues (values_now table)
         (marks_at (sources_of rows.now))) }
@@ -50,7 +50,7 @@ fn with_mark(
     if spans.is_empty() {
         return Ok(table);
     }
-    let one = table_of_spans(alloc, spans, mark.word())?;
+    let one = table_of_spans(alloc, spans, mark.word_bit())?;
     sum_of_tables(alloc, &table, &one)
 }
 

@@ -30,7 +30,7 @@ pub fn mid_words_of(alloc: Global, rows: &[RowText<'_>]) -> Result<Vec<Span>, Me
     ensures { IfOk result (λ spans. (c : ℕ) → c < 1114112
         → list_any (within c) spans.items ≡ mid_word_at rows.now c) }
 {
-    match plain_mid_words(alloc, rows)? {
+    match mid_words_without_missing(alloc, rows)? {
         Some(spans) => Ok(spans),
         None => layered_mid_words(alloc, rows),
     }
@@ -40,7 +40,10 @@ pub fn mid_words_of(alloc: Global, rows: &[RowText<'_>]) -> Result<Vec<Span>, Me
 /// missing rows; `None` if a missing row has a value in the middle of a word. UAX #29, section 4.1; UAX #44, section 4.2.10.
 ///
 /// - `Memory`: memory ran out.
-fn plain_mid_words(alloc: Global, rows: &[RowText<'_>]) -> Result<Option<Vec<Span>>, Memory>
+fn mid_words_without_missing(
+    alloc: Global,
+    rows: &[RowText<'_>],
+) -> Result<Option<Vec<Span>>, Memory>
     requires { AreValuesApart rows.now }
     ensures { IfOk result (λ given. IfSome given (λ spans. (c : ℕ)
         → list_any (within c) spans.items ≡ mid_word_at rows.now c)) }

@@ -54,7 +54,7 @@ impl<'a> RowLists<'a> {
     /// same code point, nor two of WordBreakProperty.txt but missing rows.
     ///
     /// - `Memory`: memory ran out.
-    pub fn touching(
+    pub fn next_touching(
         alloc: Global,
         release: &'a Release,
         spans: &[Span],
@@ -65,11 +65,11 @@ impl<'a> RowLists<'a> {
         ensures word_breaks_apart { IfOk result (λ lists. AreValuesApart lists.word_break.items) }
     {
         Ok(RowLists {
-            unicode_data: data_rows_in(alloc, release, spans)?,
+            unicode_data: next_data_rows_in(alloc, release, spans)?,
             case_folding: release.next_rows_in(alloc, SourceFile::CaseFolding, spans)?,
             special_casing: release.next_rows_in(alloc, SourceFile::SpecialCasing, spans)?,
             prop_list: release.next_rows_in(alloc, SourceFile::PropList, spans)?,
-            word_break: word_breaks_in(alloc, release, spans)?,
+            word_break: next_word_breaks_in(alloc, release, spans)?,
             exclusions: release.next_rows_in(alloc, SourceFile::CompositionExclusions, spans)?,
         })
     }
@@ -104,7 +104,7 @@ fn data_rows_of(alloc: Global, release: &Release) -> Result<Vec<RowText<'_>>, Me
 /// point.
 ///
 /// - `Memory`: memory ran out.
-fn data_rows_in<'a>(
+fn next_data_rows_in<'a>(
     alloc: Global,
     release: &'a Release,
     spans: &[Span],
@@ -132,7 +132,7 @@ fn word_breaks_of(alloc: Global, release: &Release) -> Result<Vec<RowText<'_>>, 
 /// rows cover the same code point.
 ///
 /// - `Memory`: memory ran out.
-fn word_breaks_in<'a>(
+fn next_word_breaks_in<'a>(
     alloc: Global,
     release: &'a Release,
     spans: &[Span],

@@ -13,7 +13,7 @@ ghost use Rattle.code_facts.specs.Rows.{Apart, row_data};
 
 use crate::case_rows::case_images;
 use crate::data_tables::DataTables;
-use crate::marks::marks;
+use crate::marks::binary_facts;
 use crate::row_lists::RowLists;
 use fact_tables::{DataLists, RowTables, sum_of_tables};
 use range_table::RunTable;
@@ -30,13 +30,13 @@ pub fn row_tables(alloc: Global, rows: &RowLists<'_>) -> Result<RowTables, Memor
         → ShowsRows made (sources_of rows.now) c) }
 {
     let data_tables = DataTables::of(alloc, rows)?;
-    let marked = marks(alloc, rows)?;
+    let marked = binary_facts(alloc, rows)?;
     let DataTables { words, lists } = data_tables;
-    over(alloc, rows, &words, lists, &marked)
+    row_tables_from_parts(alloc, rows, &words, lists, &marked)
 }
 
 /// The tables over what the rows of UnicodeData.txt give and over the marks.
-fn over(
+fn row_tables_from_parts(
     alloc: Global,
     rows: &RowLists<'_>,
     data_words: &RunTable<u64>,

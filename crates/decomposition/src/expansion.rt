@@ -32,7 +32,7 @@ pub fn expand<W: FactView>(
     ensures { FormAnswers result (expansion (W.facts_of view.now) compat c) }
 {
     let mut points = Points::new(alloc);
-    put_expansion(view, compat, LEVELS, c, &mut points)?;
+    put_bounded_expansion(view, compat, LEVELS, c, &mut points)?;
     if points.len() <= MOST {
         return Ok(points);
     }
@@ -44,7 +44,7 @@ pub fn expand<W: FactView>(
 
 /// Puts the expansion of a code point, with some levels left, at the end of a list, up to the 65th code point of the list.
 /// The walk ends there, and tells nothing of the chains that it did not come to.
-fn put_expansion<W: FactView>(
+fn put_bounded_expansion<W: FactView>(
     view: &W,
     compat: bool,
     levels: u8,
@@ -66,7 +66,7 @@ fn put_expansion<W: FactView>(
         return Ok(());
     }
     'members: for member in mapping {
-        put_expansion(view, compat, levels - 1, *member, points)?;
+        put_bounded_expansion(view, compat, levels - 1, *member, points)?;
     }
     Ok(())
 }

@@ -72,7 +72,7 @@ pub fn push_keys(keys: &mut Vec<u64>, c: Point, asked: &Queries) -> Result<(), M
 fn asker_key(query: &Query, c: Point) -> u64
     ensures { result ≡ query_key query.now + c }
 {
-    query_key(query) + u64::from(c.number())
+    query_base(query) + u64::from(c.number())
 }
 
 /// Whether a question is one of those that a code point asks if it is plain.
@@ -87,17 +87,17 @@ fn is_own_question(query: &Query, c: Point) -> bool
 }
 
 /// The least code point at or above `from` that is listed under the question, or whose own question it is.
-pub fn next_listed(keys: &KeySet, query: &Query, from: u32) -> Option<Point>
+pub fn next_listed_or_own(keys: &KeySet, query: &Query, from: u32) -> Option<Point>
     ensures { MatchOption result (NoneFrom (may_ask (has keys.now) query.now) from 1114112)
         (λ c. (from ≤ c) × NoneFrom (may_ask (has keys.now) query.now) from c) }
 {
-    let listed = next_point(keys, query_key(query), from);
+    let listed = next_point(keys, query_base(query), from);
     let own = own_asker(query, from);
     least(listed, own)
 }
 
 /// Where the keys of a question begin.
-fn query_key(query: &Query) -> u64
+fn query_base(query: &Query) -> u64
     ensures value { result ≡ query_key query.now }
     ensures below { result < 2 ^ 63 }
 {

@@ -7,7 +7,7 @@ ghost use Rattle.dependency_map.specs.Askers.{asks, askers_of, askers_of_any, po
 ghost use Rattle.dependency_map.specs.Index.{NoneFrom, kept_at};
 ghost use Rattle.dependency_map.specs.Maps.{asked_at};
 
-use crate::asker_index::next_listed;
+use crate::asker_index::next_listed_or_own;
 use crate::asker_iter::Askers;
 use crate::collecting::points_of_numbers;
 use crate::dependencies::DependencyMap;
@@ -44,7 +44,7 @@ impl<S: Store<Option<Queries>>> DependencyMap<S> {
     pub fn asks(&self, c: Point, query: Query) -> bool
         ensures { result ≡ asks (asked_at S.now self.now) query c }
     {
-        self.has_asked(c, &query)
+        self.asks_now(c, &query)
     }
 
     /// The least code point at or above `from` that asks a question now.
@@ -59,9 +59,9 @@ impl<S: Store<Option<Queries>>> DependencyMap<S> {
             ∷ points_from (asks (asked_at S.now self.now) query.now) (c + 1)) }
     {
         let mut start = from;
-        'askers: while let Some(c) = next_listed(&self.askers, query, start) {
+        'askers: while let Some(c) = next_listed_or_own(&self.askers, query, start) {
             start = c.number() + 1;
-            if self.has_asked(c, query) {
+            if self.asks_now(c, query) {
                 return Some(c);
             }
         }
@@ -85,7 +85,7 @@ impl<S: Store<Option<Queries>>> DependencyMap<S> {
     }
 
     /// Whether a code point asks a question now.
-    fn has_asked(&self, c: Point, query: &Query) -> bool
+    fn asks_now(&self, c: Point, query: &Query) -> bool
         ensures { result ≡ asks (asked_at S.now self.now) query.now c }
     {
         match self.list_of(c) {

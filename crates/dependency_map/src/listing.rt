@@ -8,7 +8,7 @@ ghost use Rattle.dependency_map.specs.Maps.{asked_at, put_at};
 use crate::asker_index::push_keys;
 use crate::dependencies::{DependencyMap, Listing};
 use crate::preparing::put_list;
-use crate::relisting::few_prepared_for;
+use crate::relisting::sweep_threshold;
 use number_sets::KeySet;
 use point_store::Store;
 use std::alloc::Global;
@@ -52,7 +52,7 @@ impl<S: Store<Option<Queries>>> Listing<S> {
         if let Some(lists) = &mut lists {
             lists.commit();
         }
-        let few = few_prepared_for(&keys);
+        let few = sweep_threshold(&keys);
         DependencyMap {
             alloc,
             lists,

@@ -16,7 +16,7 @@ use ucd_facts::{Memory, Point, Queries};
 pub const FEW: usize = 4096;
 
 /// How many prepared questions are few beside these keys.
-pub fn few_prepared_for(keys: &[u64]) -> usize {
+pub fn sweep_threshold(keys: &[u64]) -> usize {
     keys.len().saturating_add(FEW)
 }
 

@@ -5,7 +5,7 @@ ghost use Rattle.point_store.specs.SlotStore.{values};
 ghost use Rattle.range_table.specs.Values.{SameValues};
 
 use crate::dependencies::DependencyMap;
-use crate::relisting::{few_prepared_for, keys_of};
+use crate::relisting::{keys_of, sweep_threshold};
 use number_sets::KeySet;
 use point_store::SlotStore;
 use range_table::Stretches;
@@ -37,7 +37,7 @@ impl<T: Stretches<u64>> DependencyMap<SlotStore<T, Option<Queries>>> {
     {
         if let Ok(keys) = keys_of(self.alloc, &self.lists) {
             self.prepared = 0;
-            self.few = few_prepared_for(&keys);
+            self.few = sweep_threshold(&keys);
             self.askers = KeySet::of(self.alloc, keys);
         }
     }

@@ -8,7 +8,7 @@ ghost use Rattle.ucd_model.specs.Records.{Record as RecordValue, kept_record};
 ghost use Rattle.ucd_model.specs.declared.records.Record.{Record as Kept};
 ghost use Rattle.derived_writer.specs.Listings.{listing_section, listings_of, check_value, shown_label, TellsSame};
 
-use crate::names::check_name;
+use crate::names::quick_check_name;
 use crate::values::{set_binary, set_casefold, set_category, set_class, set_kind, set_quick};
 use label_runs::LabelText;
 use std::alloc::Global;
@@ -97,7 +97,7 @@ impl Listing {
             Listing::Class => b"Canonical_Combining_Class",
             Listing::Decomposition => b"Decomposition_Type",
             Listing::Exclusion => b"Full_Composition_Exclusion",
-            Listing::Quick(form) => check_name(form),
+            Listing::Quick(form) => quick_check_name(form),
             Listing::Casefold => b"NFKC_CF",
             Listing::SimpleCasefold => b"NFKC_SCF",
             Listing::ChangesCasefold => b"Changes_When_NFKC_Casefolded",
@@ -121,7 +121,7 @@ impl Listing {
             Listing::Class => set_class(alloc, shown.class, label),
             Listing::Decomposition => set_kind(shown.kind, label),
             Listing::Exclusion => set_binary(self.name(), shown.exclusion, label),
-            Listing::Quick(form) => set_quick(check_name(form), quick(form, shown), label),
+            Listing::Quick(form) => set_quick(quick_check_name(form), quick(form, shown), label),
             Listing::Casefold => set_casefold(self.name(), &shown.casefold, label),
             Listing::SimpleCasefold => set_casefold(self.name(), &shown.simple_casefold, label),
             Listing::ChangesCasefold => set_binary(self.name(), shown.changes_casefold, label),

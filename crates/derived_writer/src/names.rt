@@ -6,7 +6,7 @@ ghost use Rattle.derived_writer.specs.Listings.{check_name};
 use ucd_model::Form;
 
 /// The name of the quick check of a form. UAX #15, section 9.
-pub fn check_name(form: Form) -> &'static [u8]
+pub fn quick_check_name(form: Form) -> &'static [u8]
     ensures { result.now ≡ check_name form }
 {
     match form {

@@ -298,8 +298,8 @@ impl FactView for Bench {
         self.derivation.tables.simple_folding(c)
     }
 
-    fn is_unmapped(&self, c: Point) -> bool {
-        self.derivation.tables.is_unmapped(c)
+    fn is_unchanged_by_casing(&self, c: Point) -> bool {
+        self.derivation.tables.is_unchanged_by_casing(c)
     }
 }
 

@@ -170,7 +170,8 @@ impl Derivation {
         ensures steps { CountsWithin (tables_facts values_now self.old.tables)
             (tables_next values_now self.old.tables) steps.old steps.new }
     {
-        self.questions.reach(alloc, &self.tables, queries)?;
+        self.questions
+            .list_possible_askers(alloc, &self.tables, queries)?;
         let view = self.tables.next();
         match turn(
             alloc,

@@ -47,7 +47,7 @@ pub fn derive_all<L: Ledger>(
     ensures invalid { IfErr result (λ stop. NamesBroken stop (tables_facts values_now tables.now)) }
     ensures steps { steps.new ≤ steps.old + point_count }
 {
-    let mut table = derive_first(alloc, tables, steps)?;
+    let mut table = table_of_first_record(alloc, tables, steps)?;
     derive_behind(alloc, tables, &mut table, steps)?;
     table.commit();
     table.shrink_to_fit();
@@ -55,7 +55,7 @@ pub fn derive_all<L: Ledger>(
 }
 
 /// The table in which all code points have the record of the first one, which is derived in one step.
-fn derive_first<L: Ledger>(
+fn table_of_first_record<L: Ledger>(
     alloc: Global,
     tables: &FactTables<PagedTable>,
     steps: &mut Steps<L>,

@@ -42,7 +42,7 @@ pub fn apply_kept<L: Ledger>(
     ensures counted { CountsAs (after_ops release.old.current 0 group.now)
         (bench_facts release.old) steps.old steps.new }
 {
-    release.is_kept();
+    release.current_files_are_kept();
     derivation.sweep();
     match prepare_kept(alloc, release, derivation, group, steps) {
         Ok((changed, way)) => {

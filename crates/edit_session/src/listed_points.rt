@@ -18,7 +18,7 @@ use ucd_model::{Memory, Point};
 /// Prepares what code points ask, if they have a mapping; what the others ask needs no list.
 ///
 /// - `Memory`: memory ran out. What some of them ask may be prepared.
-pub fn list_points(
+pub fn list_questions(
     alloc: Global,
     tables: &FactTables<PagedTable>,
     points: &[Point],
@@ -29,7 +29,7 @@ pub fn list_points(
         (asked_at (values values_next) map.old) (asked_at (values values_next) map.new)) }
 {
     'points: for c in points {
-        list_point(alloc, tables, *c, map)?;
+        list_point_questions(alloc, tables, *c, map)?;
     }
     Ok(())
 }
@@ -37,7 +37,7 @@ pub fn list_points(
 /// Prepares what a code point asks, if it has a mapping.
 ///
 /// - `Memory`: memory ran out. What it asks may be prepared.
-fn list_point(
+fn list_point_questions(
     alloc: Global,
     tables: &FactTables<PagedTable>,
     c: Point,
@@ -51,13 +51,13 @@ fn list_point(
     if tables.is_plain(c) {
         return Ok(());
     }
-    prepare_asked(alloc, tables, c, map)
+    prepare_questions(alloc, tables, c, map)
 }
 
 /// Prepares what a code point asks.
 ///
 /// - `Memory`: memory ran out. What it asks may be prepared.
-fn prepare_asked(
+fn prepare_questions(
     alloc: Global,
     tables: &FactTables<PagedTable>,
     c: Point,

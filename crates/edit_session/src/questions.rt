@@ -14,7 +14,7 @@ ghost use Rattle.ucd_model.specs.ValidityLaws.{IsValid};
 ghost use Rattle.ucd_facts.specs.declared.query.Query.{Query as Question};
 ghost use Rattle.edit_session.specs.Questions.{AreStill, HasWalked, KeepsNext, KeepsNow, KeepsWalked};
 
-use crate::listed_points::list_points;
+use crate::listed_points::list_questions;
 use crate::mentions::mention_all;
 use code_facts::FactTables;
 use dependency_map::DependencyMap;
@@ -56,7 +56,7 @@ impl Questions {
     /// not listed yet. No step is counted. If there are no questions, it does nothing.
     ///
     /// - `Memory`: memory ran out. What was listed is let go of.
-    pub fn reach(
+    pub fn list_possible_askers(
         &mut self,
         alloc: Global,
         tables: &FactTables<PagedTable>,
@@ -74,14 +74,14 @@ impl Questions {
             return Ok(());
         }
         let kept = replace(self, Questions::new(alloc));
-        *self = kept.reached(alloc, tables, queries)?;
+        *self = kept.with_possible_askers(alloc, tables, queries)?;
         Ok(())
     }
 
     /// These questions, with what the code points ask that may ask one of the others.
     ///
     /// - `Memory`: memory ran out.
-    fn reached(
+    fn with_possible_askers(
         self,
         alloc: Global,
         tables: &FactTables<PagedTable>,
@@ -181,7 +181,7 @@ fn list_reached(
         → is_walked mentions.new (about q) ≡ true) }
 {
     let points = mentions.reach(alloc, queries)?;
-    list_points(alloc, tables, points.as_slice(), map)?;
+    list_questions(alloc, tables, points.as_slice(), map)?;
     map.commit();
     Ok(())
 }

@@ -9,7 +9,7 @@ use Rattle.std.specs.BTreeMap.{BTreeMap, get}
 use Rattle.std.specs.BTreeMap.Range.{IsLeBy}
 use Rattle.ucd_facts.specs.Facts.{image}
 use Rattle.ucd_facts.specs.Uniform.{IsPlain}
-use Rattle.ucd_facts.specs.Unmapped.{is_same, is_unmapped}
+use Rattle.ucd_facts.specs.Unmapped.{is_same, is_unchanged_by_casing}
 use Rattle.ucd_facts.specs.declared.image.Image.{Image}
 use Rattle.ucd_facts.specs.declared.image.Image.TheVariants.{Same}
 use Rattle.fact_tables.specs.KeptFacts.{kept_at, all_kept}
@@ -52,9 +52,9 @@ unmapped_plain words rests c inside none =
 four_same : (a b d e : Image) → a ≡ Same → b ≡ Same → d ≡ Same → e ≡ Same → (is_same a && (is_same b && (is_same d && is_same e))) ≡ true
 four_same a b d e p q r t = rw (p, q, r, t) refl
 
-bare_is_unmapped : (c word : ℕ) (m : List ℕ) → is_unmapped (kept_at c word (bare_rest m)) ≡ true
+bare_is_unmapped : (c word : ℕ) (m : List ℕ) → is_unchanged_by_casing (kept_at c word (bare_rest m)) ≡ true
 bare_is_unmapped c word m = four_same _ _ _ _ (itself c) (itself c) (itself c) (itself c)
 
-pub bare_unmapped : (words : ℕ → ℕ) (rests : ℕ → RestOf) (c : ℕ) (m : List ℕ) → c < 1114112 → rests c ≡ bare_rest m → is_unmapped (all_kept words rests c) ≡ true
+pub bare_unmapped : (words : ℕ → ℕ) (rests : ℕ → RestOf) (c : ℕ) (m : List ℕ) → c < 1114112 → rests c ≡ bare_rest m → is_unchanged_by_casing (all_kept words rests c) ≡ true
 bare_unmapped words rests c m inside bare =
-    ap is_unmapped (kept_point words rests c inside ∙ ap (kept_at c (words c)) bare) ∙ bare_is_unmapped c (words c) m
+    ap is_unchanged_by_casing (kept_point words rests c inside ∙ ap (kept_at c (words c)) bare) ∙ bare_is_unmapped c (words c) m

@@ -24,7 +24,7 @@ impl CaseImages {
     /// The images of a code point; `None` only if it has none.
     ///
     /// - `Memory`: memory ran out.
-    pub fn at(&self, alloc: Global, c: Point) -> Result<Option<Box<Cases>>, Memory>
+    pub fn copied_cases_at(&self, alloc: Global, c: Point) -> Result<Option<Box<Cases>>, Memory>
         ensures { IfOk result (λ cases. cases_of (option_map box_value cases)
             ≡ cases_at self.now.images c) }
     {

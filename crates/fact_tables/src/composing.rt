@@ -22,7 +22,7 @@ impl<T: Table<u64>> FactTables<T> {
         }
         let mut from = 0;
         'listed: while let Some(q) = self.index.next_of_pair(s, y, from) {
-            if is_pair(self.members(version, q), s, y) {
+            if is_pair(self.composite_members(version, q), s, y) {
                 return Some(q);
             }
             from = q.number() + 1;
@@ -36,7 +36,7 @@ impl<T: Table<u64>> FactTables<T> {
     {
         let mut from = 0;
         'listed: while let Some(q) = self.index.next_of_second(y, from) {
-            if ends_pair(self.members(version, q), y) {
+            if ends_pair(self.composite_members(version, q), y) {
                 return true;
             }
             from = q.number() + 1;
@@ -46,17 +46,17 @@ impl<T: Table<u64>> FactTables<T> {
 
     /// The members of the mapping of a primary composite; `None` for every other code point.
     /// The Unicode Standard, section 3.11, D114.
-    pub(crate) fn members(&self, version: NowOrNext, q: Point) -> Option<(Point, Point)>
+    pub(crate) fn composite_members(&self, version: NowOrNext, q: Point) -> Option<(Point, Point)>
         ensures pair { (s y : ℕ) → is_that s y result ≡ composes (facts_at version self.now) s y q }
         ensures second { (y : ℕ) → ends_that y result ≡ ends_with (facts_at version self.now) y q }
     {
         let two = two_of(self.mapping_in(version, q));
-        self.picked(version, q, two)
+        self.composing_members(version, q, two)
     }
 
     /// The members of the mapping of a code point, if its kind, its class and its exclusion let it compose them, and the
     /// class of the first too.
-    fn picked(
+    fn composing_members(
         &self,
         version: NowOrNext,
         q: Point,
@@ -66,7 +66,7 @@ impl<T: Table<u64>> FactTables<T> {
     {
         match two {
             Some(two) => {
-                if self.may_compose(version, q, two.0) {
+                if self.may_be_composite_from(version, q, two.0) {
                     Some(two)
                 } else {
                     None
@@ -77,7 +77,7 @@ impl<T: Table<u64>> FactTables<T> {
     }
 
     /// Whether a code point may be a primary composite whose mapping begins with `s`.
-    fn may_compose(&self, version: NowOrNext, q: Point, s: Point) -> bool
+    fn may_be_composite_from(&self, version: NowOrNext, q: Point, s: Point) -> bool
         ensures { result ≡ may_compose (facts_at version self.now) q s }
     {
         let candidate = self.is_candidate(version, q);
@@ -87,7 +87,7 @@ impl<T: Table<u64>> FactTables<T> {
 
     /// The two members of the mapping of a code point that may be a primary composite by its kind, its class and its
     /// exclusion; `None` for every other code point.
-    pub(crate) fn candidate(&self, version: NowOrNext, q: Point) -> Option<(Point, Point)>
+    pub(crate) fn candidate_members(&self, version: NowOrNext, q: Point) -> Option<(Point, Point)>
         ensures { result ≡ candidate_of (facts_at version self.now q) }
     {
         if self.is_candidate(version, q) {

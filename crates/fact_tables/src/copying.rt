@@ -152,7 +152,7 @@ fn put_rests_with<S: Store<PackedMappings>>(
             bare = from.bare_until(first);
         }
         let mapping = from.lists.mappings.run(first, near);
-        let last = lesser(from.last_rest(first, bare, mapping.last), point(end));
+        let last = lesser(from.last_alike_rest(first, bare, mapping.last), point(end));
         let part = Span {
             lo: first,
             hi: last,

@@ -71,7 +71,7 @@ impl<T: Table<u64>> FactView for NextView<'_, T> {
         self.tables.simple_folding_in(NowOrNext::Next, c)
     }
 
-    fn is_unmapped(&self, c: Point) -> bool {
-        self.tables.is_unmapped_in(NowOrNext::Next, c)
+    fn is_unchanged_by_casing(&self, c: Point) -> bool {
+        self.tables.is_unchanged_by_casing_in(NowOrNext::Next, c)
     }
 }

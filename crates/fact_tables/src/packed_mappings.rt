@@ -68,7 +68,7 @@ impl PackedMappings {
     /// What is kept of these mappings.
     ///
     /// - `Memory`: memory ran out.
-    pub fn of(alloc: Global, mappings: Mappings) -> Result<PackedMappings, Memory>
+    pub fn boxed(alloc: Global, mappings: Mappings) -> Result<PackedMappings, Memory>
         ensures { IfOk result (λ rest. rest ≡ rest_of_all mappings) }
     {
         Ok(PackedMappings {
@@ -294,7 +294,7 @@ fn copied_mappings(alloc: Global, all: &Mappings) -> Result<PackedMappings, Memo
 {
     let mapping = Points::of(alloc, all.mapping.as_slice())?;
     let cases = copied_cases(alloc, all.cases.as_deref())?;
-    PackedMappings::of(
+    PackedMappings::boxed(
         alloc,
         Mappings {
             mapping,

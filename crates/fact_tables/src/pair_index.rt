@@ -4,7 +4,7 @@ ghost use Rattle.std.specs.Prelude.{◌≡◌, ℕ, ◌+◌, ◌%◌, ◌<◌, �
 ghost use Rattle.number_sets.specs.Keys.{has, is_in, IsNext};
 ghost use Rattle.fact_tables.specs.Index.{pair_key, first_key, second_key, is_listed, is_gathered, IsNextBelow};
 
-use crate::pair_keys::{PairKeys, pair_key, second_key};
+use crate::pair_keys::{PairKeys, pair_base, second_member_base};
 use crate::points::point;
 use number_sets::KeySet;
 use std::alloc::Global;
@@ -95,7 +95,7 @@ impl PairIndex {
     }
 
     /// The least key at or above `from` of a pair; `None` if there is none.
-    pub fn next_pair(&self, from: u64) -> Option<u64>
+    pub fn next_pair_key(&self, from: u64) -> Option<u64>
         ensures { IsNext (has self.now.pairs) from result }
     {
         self.pairs.next(from)
@@ -105,22 +105,22 @@ impl PairIndex {
     pub fn next_of_pair(&self, s: Point, y: Point, from: u32) -> Option<Point>
         ensures { IsNextBelow (λ k. has self.now.pairs (pair_key s y + k)) from 1114112 result }
     {
-        next_listed(&self.pairs, pair_key(s, y), from)
+        next_listed(&self.pairs, pair_base(s, y), from)
     }
 
     /// The least code point at or above `from` that is listed under a second member; `None` if there is none.
     pub fn next_of_second(&self, y: Point, from: u32) -> Option<Point>
         ensures { IsNextBelow (λ k. has self.now.seconds (second_key y + k)) from 1114112 result }
     {
-        next_listed(&self.seconds, second_key(y), from)
+        next_listed(&self.seconds, second_member_base(y), from)
     }
 
     /// The least key at or above `from` of a pair that has `s` as its first member; `None` if there is none.
-    pub fn next_of_first(&self, s: Point, from: u64) -> Option<u64>
+    pub fn next_key_of_first(&self, s: Point, from: u64) -> Option<u64>
         ensures { IsNextBelow (has self.now.pairs) from (first_key s + 4398046511104) result }
     {
         let key = self.pairs.next(from)?;
-        if key < first_key(s) + 4_398_046_511_104 {
+        if key < first_member_base(s) + 4_398_046_511_104 {
             Some(key)
         } else {
             None
@@ -149,7 +149,7 @@ fn insert(keys: &mut KeySet, key: u64) -> Result<(), Memory>
 }
 
 /// Where the keys of all pairs with this first member begin.
-pub fn first_key(s: Point) -> u64
+pub fn first_member_base(s: Point) -> u64
     ensures value { result ≡ first_key s }
     ensures below { result < 9223372036850000000 }
 {

@@ -44,8 +44,8 @@ impl PairKeys {
         ensures gathered { OnOk result (is_gathered self.new s y q ≡ true) }
     {
         let own = u64::from(q.number());
-        put_key(&mut self.pairs, pair_key(s, y) + own)?;
-        put_key(&mut self.seconds, second_key(y) + own)
+        put_key(&mut self.pairs, pair_base(s, y) + own)?;
+        put_key(&mut self.seconds, second_member_base(y) + own)
     }
 
     /// Gathers the code points of a span under the members of the mapping that they have in common.
@@ -74,7 +74,7 @@ fn put_key(keys: &mut Vec<u64>, key: u64) -> Result<(), Memory>
 }
 
 /// Where the keys of a pair begin.
-pub fn pair_key(s: Point, y: Point) -> u64
+pub fn pair_base(s: Point, y: Point) -> u64
     ensures value { result ≡ pair_key s y }
     ensures below { result < 9223372036850000000 }
 {
@@ -82,7 +82,7 @@ pub fn pair_key(s: Point, y: Point) -> u64
 }
 
 /// Where the keys of a second member begin.
-pub fn second_key(y: Point) -> u64
+pub fn second_member_base(y: Point) -> u64
     ensures value { result ≡ second_key y }
     ensures below { result < 9223372036850000000 }
 {

@@ -41,11 +41,11 @@ impl<T: Stretches<u64>> FactTables<T> {
         if !rest.mapping().is_empty() {
             return None;
         }
-        self.plain(c)
+        self.itself_if_plain(c)
     }
 
     /// The code point, if it has no mapping.
-    fn plain(&self, c: Point) -> Option<Point>
+    fn itself_if_plain(&self, c: Point) -> Option<Point>
         ensures plain { IsSome result ↔ IsPlain c (tables_facts T.now self.now c) }
         ensures stretch { IfSome result
             (HoldsTo (λ d. IsPlain d (tables_facts T.now self.now d)) c) }
@@ -62,11 +62,11 @@ impl<T: Stretches<u64>> FactTables<T> {
 fn is_plain(c: Point, facts: &FactsRef<'_>) -> bool
     ensures { IsTrue result ↔ IsPlain c (shown_facts facts.now) }
 {
-    facts.mapping.is_empty() && is_own_image(c, facts) && has_no_image(facts)
+    facts.mapping.is_empty() && has_own_simple_images(c, facts) && has_no_full_image(facts)
 }
 
 /// Whether each simple image is the code point itself.
-fn is_own_image(c: Point, facts: &FactsRef<'_>) -> bool
+fn has_own_simple_images(c: Point, facts: &FactsRef<'_>) -> bool
     ensures { IsTrue result ↔ IsOwnImage c facts.now }
 {
     facts.simple_upper == c
@@ -76,7 +76,7 @@ fn is_own_image(c: Point, facts: &FactsRef<'_>) -> bool
 }
 
 /// Whether no image is shown.
-fn has_no_image(facts: &FactsRef<'_>) -> bool
+fn has_no_full_image(facts: &FactsRef<'_>) -> bool
     ensures { IsTrue result ↔ ShowsNoImage facts.now }
 {
     facts.upper.is_none() && facts.lower.is_none() && facts.title.is_none() && facts.fold.is_none()

@@ -158,13 +158,13 @@ fn make_room<T: Table<u64>, S: Store<PackedMappings>>(
 {
     words.reserve(uneven_blocks(|c| from.words.last_of_run(c)));
     rests.reserve(
-        rest_count(&from.lists),
-        uneven_blocks(|c| from.last_listed(c)),
+        estimated_rest_count(&from.lists),
+        uneven_blocks(|c| from.last_alike_lists(c)),
     );
 }
 
 /// About how many values are kept beside the words: one for each run of three kinds of mappings. There may be some more.
-fn rest_count(lists: &DataLists) -> usize {
+fn estimated_rest_count(lists: &DataLists) -> usize {
     let mappings = lists.mappings.places.runs();
     let uppers = lists.uppers.places.runs();
     let lowers = lists.lowers.places.runs();

@@ -13,7 +13,7 @@ ghost use Rattle.ucd_points.specs.Stretches.{HoldsTo};
 
 use crate::fact_tables::FactTables;
 use crate::now_or_next::NowOrNext;
-use crate::pair_index::{first_key, listed_point};
+use crate::pair_index::{first_member_base, listed_point};
 use crate::points::{lesser, point};
 use crate::reached::Reached;
 use range_table::{Stretches, Table};
@@ -136,7 +136,7 @@ impl<T: Table<u64>> FactTables<T> {
     {
         self.put_row_query(&mut reached.queries, c)?;
         self.put_own_pairs(&mut reached.pairs, c)?;
-        self.put_pairs_begun_by(&mut reached.pairs, c)
+        self.put_pairs_of_changed_starter(&mut reached.pairs, c)
     }
 
     /// Adds the question on the facts of a code point, if they differ.
@@ -183,14 +183,18 @@ impl<T: Table<u64>> FactTables<T> {
         ensures own { OnOk result ((s y : ℕ) → composes (facts_at version self.now) s y q ≡ true
             → is_reached pairs.new.items s y ≡ true) }
     {
-        if let Some(pair) = self.members(version, q) {
+        if let Some(pair) = self.composite_members(version, q) {
             pairs.push(pair)?;
         }
         Ok(())
     }
 
     /// Adds the pairs that a code point begins, if it has class 0 either now or next, but not both times.
-    fn put_pairs_begun_by(&self, pairs: &mut Vec<(Point, Point)>, s: Point) -> Result<(), Memory>
+    fn put_pairs_of_changed_starter(
+        &self,
+        pairs: &mut Vec<(Point, Point)>,
+        s: Point,
+    ) -> Result<(), Memory>
         ensures grows { OnOk result (Grows pairs.old.items pairs.new.items) }
         ensures first { OnOk result
             (first_differs (tables_facts T.now self.now) (tables_next T.now self.now) s ≡ true
@@ -217,8 +221,8 @@ impl<T: Table<u64>> FactTables<T> {
             → ReachesOwn (tables_facts T.now self.now)
             (tables_next T.now self.now) pairs.new.items q) }
     {
-        let mut from = first_key(s);
-        'listed: while let Some(key) = self.index.next_of_first(s, from) {
+        let mut from = first_member_base(s);
+        'listed: while let Some(key) = self.index.next_key_of_first(s, from) {
             self.put_pairs_of_key(pairs, key)?;
             from = key + 1;
         }

@@ -3,7 +3,7 @@
 ghost use Rattle.std.specs.Prelude.{◌≡◌};
 ghost use Rattle.ucd_facts.specs.Sets.{has_flag};
 ghost use Rattle.ucd_facts.specs.Shown.{image_shown, shown_facts};
-ghost use Rattle.ucd_facts.specs.Unmapped.{is_unmapped};
+ghost use Rattle.ucd_facts.specs.Unmapped.{is_unchanged_by_casing};
 ghost use Rattle.fact_tables.specs.FactTables.{words_at, rests_at, facts_at};
 
 use crate::fact_tables::FactTables;
@@ -113,13 +113,13 @@ impl<T: Table<u64>> FactTables<T> {
 
     /// Whether a code point is its own image by each full case mapping, and by the folding. One that has no more than a
     /// decomposition mapping, as most have, is so at once.
-    pub(crate) fn is_unmapped_in(&self, version: NowOrNext, c: Point) -> bool
-        ensures { result ≡ is_unmapped (facts_at version self.now c) }
+    pub(crate) fn is_unchanged_by_casing_in(&self, version: NowOrNext, c: Point) -> bool
+        ensures { result ≡ is_unchanged_by_casing (facts_at version self.now c) }
     {
         let _number = c.number();
         match self.rest(version, c).bare_mapping() {
             Some(_) => true,
-            None => self.facts_in(version, c).is_unmapped(),
+            None => self.facts_in(version, c).is_unchanged_by_casing(),
         }
     }
 }

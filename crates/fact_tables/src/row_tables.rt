@@ -52,14 +52,14 @@ impl RowTables {
             upper: first_of(self.lists.uppers.get(c)),
             lower: first_of(self.lists.lowers.get(c)),
             title: first_of(self.lists.titles.get(c)),
-            cases: self.cases.at(alloc, c)?,
+            cases: self.cases.copied_cases_at(alloc, c)?,
         };
-        Ok(Some(PackedMappings::of(alloc, mappings)?))
+        Ok(Some(PackedMappings::boxed(alloc, mappings)?))
     }
 
     /// A code point up to which the same is kept beside the words from `c` on. Decomposition mappings are the same up
     /// to `mapping`. Below `bare` code points have no more than that, and nothing is looked up.
-    pub fn last_rest(&self, c: Point, bare: u32, mapping: Point) -> Point
+    pub fn last_alike_rest(&self, c: Point, bare: u32, mapping: Point) -> Point
         requires bare { AreBare self.now c bare }
         requires bound { bare ≤ 1114112 }
         requires mapping { HoldsTo
@@ -69,14 +69,14 @@ impl RowTables {
         if c.number() < bare {
             return lesser(mapping, point(bare - 1));
         }
-        lesser(mapping, self.last_other(c))
+        lesser(mapping, self.last_alike_casing(c))
     }
 
     /// A code point up to which simple mappings and images are the same from `c` on.
-    fn last_other(&self, c: Point) -> Point
+    fn last_alike_casing(&self, c: Point) -> Point
         ensures { HoldsTo (λ d. others_in self.now d ≡ others_in self.now c) c result }
     {
-        let simple = self.last_simple(c);
+        let simple = self.last_alike_simple(c);
         if simple.number() == c.number() {
             return c;
         }
@@ -84,7 +84,7 @@ impl RowTables {
     }
 
     /// A code point up to which the mappings that rows of UnicodeData.txt give are the same from `c` on.
-    pub fn last_listed(&self, c: Point) -> Point
+    pub fn last_alike_lists(&self, c: Point) -> Point
         ensures mapping { HoldsTo
             (λ d. lists_now self.now.lists.value.mappings d
             ≡ lists_now self.now.lists.value.mappings c)
@@ -103,11 +103,11 @@ impl RowTables {
             c result }
     {
         let mapping = self.lists.mappings.last_of_run(c);
-        lesser(mapping, self.last_simple(c))
+        lesser(mapping, self.last_alike_simple(c))
     }
 
     /// A code point up to which simple mappings are the same from `c` on.
-    fn last_simple(&self, c: Point) -> Point
+    fn last_alike_simple(&self, c: Point) -> Point
         ensures upper { HoldsTo
             (λ d. lists_now self.now.lists.value.uppers d
             ≡ lists_now self.now.lists.value.uppers c)
@@ -133,7 +133,7 @@ impl RowTables {
         ensures bound { result ≤ 1114112 }
     {
         if self.is_bare(c) {
-            self.last_other(c).number() + 1
+            self.last_alike_casing(c).number() + 1
         } else {
             c.number()
         }

@@ -7,7 +7,7 @@ ghost use Rattle.fact_tables.specs.Index.{GathersAll, is_candidate, is_gathered,
 use crate::fact_tables::FactTables;
 use crate::now_or_next::NowOrNext;
 use crate::pair_index::{PairIndex, listed_point};
-use crate::pair_keys::{PairKeys, pair_key};
+use crate::pair_keys::{PairKeys, pair_base};
 use range_table::{Stretches, Table};
 use ucd_facts::{Memory, Point};
 
@@ -53,8 +53,8 @@ impl<T: Table<u64>> FactTables<T> {
     {
         let mut keys = PairKeys::new(self.index.allocator());
         let mut from = 0;
-        'listed: while let Some(key) = self.index.next_pair(from) {
-            self.keep_candidate(&mut keys, key).ok()?;
+        'listed: while let Some(key) = self.index.next_pair_key(from) {
+            self.gather_if_candidate(&mut keys, key).ok()?;
             from = key.checked_add(1)?;
         }
         Some(keys)
@@ -63,7 +63,7 @@ impl<T: Table<u64>> FactTables<T> {
     /// Gathers the code point of a key, if it may compose the two members of its mapping now and they are those of the key.
     ///
     /// - `Memory`: memory ran out.
-    fn keep_candidate(&self, keys: &mut PairKeys, key: u64) -> Result<(), Memory>
+    fn gather_if_candidate(&self, keys: &mut PairKeys, key: u64) -> Result<(), Memory>
         ensures grows { (s y q : ℕ) → is_gathered keys.old s y q ≡ true
             → is_gathered keys.new s y q ≡ true }
         ensures kept { OnOk result ((s y q : ℕ)
@@ -74,7 +74,7 @@ impl<T: Table<u64>> FactTables<T> {
         let Some(q) = listed_point(key) else {
             return Ok(());
         };
-        match self.candidate(NowOrNext::Now, q) {
+        match self.candidate_members(NowOrNext::Now, q) {
             Some(two) => gather_if_keyed(keys, key, two, q),
             None => Ok(()),
         }
@@ -95,7 +95,7 @@ fn gather_if_keyed(
     ensures kept { OnOk result (key ≡ pair_key two.0 two.1 + q
         → is_gathered keys.new two.0 two.1 q ≡ true) }
 {
-    if key == pair_key(two.0, two.1) + u64::from(q.number()) {
+    if key == pair_base(two.0, two.1) + u64::from(q.number()) {
         keys.put(two.0, two.1, q)
     } else {
         Ok(())

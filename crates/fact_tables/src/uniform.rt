@@ -7,7 +7,7 @@ ghost use Rattle.fact_tables.specs.FactTables.{tables_facts};
 ghost use Rattle.ucd_points.specs.Stretches.{HoldsTo};
 
 use crate::fact_tables::FactTables;
-use crate::pair_keys::second_key;
+use crate::pair_keys::second_member_base;
 use crate::points::{lesser, point};
 use range_table::Stretches;
 use ucd_facts::{FactView, Point};
@@ -26,13 +26,13 @@ impl<T: Stretches<u64>> FactTables<T> {
             Uniform (⟦<FactTables<T> as FactView>⟧.facts_of self.now) c d) c) }
     {
         let plain = self.last_plain(c)?;
-        let alike = self.last_alike(c);
-        let seconds = self.last_seconds(c);
+        let alike = self.last_alike_but_mappings(c);
+        let seconds = self.last_alike_second(c);
         Some(lesser(plain, lesser(alike, seconds)))
     }
 
     /// A code point up to which the facts of all from `c` on differ from those of `c` in mappings and images alone.
-    fn last_alike(&self, c: Point) -> Point
+    fn last_alike_but_mappings(&self, c: Point) -> Point
         ensures { HoldsTo (λ d. Alike (tables_facts T.now self.now d)
             (tables_facts T.now self.now c)) c result }
     {
@@ -44,12 +44,12 @@ impl<T: Stretches<u64>> FactTables<T> {
 
     /// A code point up to which all from `c` on are second members alike: `c` itself if one is listed under it, or else
     /// the last before the next one.
-    fn last_seconds(&self, c: Point) -> Point
+    fn last_alike_second(&self, c: Point) -> Point
         ensures { HoldsTo (λ d. second_of (tables_facts T.now self.now) d
             ≡ second_of (tables_facts T.now self.now) c) c result }
     {
         let first = u64::from(c.number());
-        let Some(key) = self.index.seconds.next(second_key(c)) else {
+        let Some(key) = self.index.seconds.next(second_member_base(c)) else {
             return point(Point::COUNT - 1);
         };
         // the bits of the second member

@@ -62,8 +62,8 @@ impl<T: Table<u64>> FactView for FactTables<T> {
         self.simple_folding_in(NowOrNext::Now, c)
     }
 
-    fn is_unmapped(&self, c: Point) -> bool {
-        self.is_unmapped_in(NowOrNext::Now, c)
+    fn is_unchanged_by_casing(&self, c: Point) -> bool {
+        self.is_unchanged_by_casing_in(NowOrNext::Now, c)
     }
 }
 
@@ -123,7 +123,7 @@ impl<T: Table<u64>> FactView for NowView<'_, T> {
         self.tables.simple_folding(c)
     }
 
-    fn is_unmapped(&self, c: Point) -> bool {
-        self.tables.is_unmapped(c)
+    fn is_unchanged_by_casing(&self, c: Point) -> bool {
+        self.tables.is_unchanged_by_casing(c)
     }
 }

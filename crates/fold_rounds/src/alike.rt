@@ -8,11 +8,11 @@ use ucd_model::{FactView, Point, same_points};
 
 /// Whether the full folding of each member of a list is its simple folding alone, so that both foldings give one list. It
 /// takes no memory. The Unicode Standard, section 5.18, Caseless Matching.
-pub fn are_alike<W: FactView>(view: &W, s: &[Point]) -> bool
+pub fn all_fold_alike<W: FactView>(view: &W, s: &[Point]) -> bool
     ensures { result ≡ are_alike (W.facts_of view.now) s.now }
 {
     'members: for x in s {
-        if !is_alike(view, *x) {
+        if !folds_alike(view, *x) {
             return false;
         }
     }
@@ -20,7 +20,7 @@ pub fn are_alike<W: FactView>(view: &W, s: &[Point]) -> bool
 }
 
 /// Whether the full folding of a code point is its simple folding alone.
-fn is_alike<W: FactView>(view: &W, c: Point) -> bool
+fn folds_alike<W: FactView>(view: &W, c: Point) -> bool
     ensures { result ≡ is_alike c (W.facts_of view.now c) }
 {
     match view.folding(c) {

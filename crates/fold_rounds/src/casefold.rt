@@ -11,7 +11,7 @@ ghost use Rattle.ucd_facts.specs.declared.image.Image.TheVariants.{Same, To};
 ghost use Rattle.fold_rounds.specs.Steps.{FoldsAs};
 
 use crate::ignorable::is_default_ignorable;
-use crate::rounds::fixed;
+use crate::rounds::first_fixed_list;
 use crate::settled::folds_to_itself;
 use normalisation::nfkc;
 use std::alloc::Global;
@@ -96,7 +96,7 @@ pub fn casefold_of<W: FactView>(
             alike: true,
         });
     }
-    match fixed(alloc, view, folding, c, form)? {
+    match first_fixed_list(alloc, view, folding, c, form)? {
         Some(found) => Ok(Folded {
             image: Image::of(c, found.list),
             alike: found.alike,

@@ -9,7 +9,7 @@ pub mod laws;
 mod rounds;
 mod settled;
 
-pub use alike::are_alike;
+pub use alike::all_fold_alike;
 pub use casefold::{Folded, casefold_of, nfkc_casefold, nfkc_simple_casefold};
 pub use ignorable::{default_ignorable, drop_ignorable, is_default_ignorable, is_visible_format};
 pub use rounds::{LISTS, MOST_POINTS};

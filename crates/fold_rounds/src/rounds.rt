@@ -7,9 +7,9 @@ ghost use Rattle.ucd_model.specs.Forms.{nfkc};
 ghost use Rattle.ucd_facts.specs.declared.folding.Folding.{Folding};
 ghost use Rattle.fold_rounds.specs.Steps.{folded_form, is_settled, FoundBy, IsCovered};
 
-use crate::alike::are_alike;
+use crate::alike::all_fold_alike;
 use crate::ignorable::drop_ignorable;
-use crate::settled::{has_composite, is_settled};
+use crate::settled::{has_canonical_mapping, is_settled};
 use case_derivation::folded;
 use normalisation::nfkc;
 use std::alloc::Global;
@@ -33,7 +33,7 @@ pub struct Found {
 impl Found {
     /// This list, as it stands behind another one. It is known that both foldings give it only if that was known of it, and
     /// `alike` says so of the other one too.
-    fn behind(self, alike: bool) -> Found
+    fn alike_only_if(self, alike: bool) -> Found
         ensures list { result.list ≡ self.list }
         ensures alike { result.alike ≡ (alike && self.alike) }
     {
@@ -48,7 +48,7 @@ impl Found {
 /// it is; `None` if there is none. The Unicode Standard, section 3.13, toNFKC_Casefold.
 ///
 /// - `Memory`: memory ran out.
-pub(crate) fn fixed<W: FactView>(
+pub(crate) fn first_fixed_list<W: FactView>(
     alloc: Global,
     view: &W,
     folding: Folding,
@@ -64,11 +64,11 @@ pub(crate) fn fixed<W: FactView>(
     if is_settled(view, form) {
         return fixed_settled(alloc, view, folding, c, form);
     }
-    let alike = are_alike(view, form);
+    let alike = all_fold_alike(view, form);
     match short_fold(alloc, view, folding, form)? {
         Some(folded) => {
             let settled = is_settled(view, folded.as_slice());
-            fixed_by(alloc, view, folding, c, folded.as_slice(), alike, settled)
+            fixed_from_folded(alloc, view, folding, c, folded.as_slice(), alike, settled)
         }
         None => Ok(None),
     }
@@ -91,8 +91,8 @@ fn fixed_settled<W: FactView>(
     requires settled { list_all (λ x. is_settled x (W.facts_of view.now x)) form.now ≡ true }
     ensures { IfOk result (FoundBy folding (λ k. casefold k (W.facts_of view.now) c)) }
 {
-    if has_composite(view, form) {
-        return fixed_by(alloc, view, folding, c, form, true, true);
+    if has_canonical_mapping(view, form) {
+        return fixed_from_folded(alloc, view, folding, c, form, true, true);
     }
     let list = Points::of(alloc, form)?;
     Ok(Some(Found { list, alike: true }))
@@ -104,7 +104,7 @@ fn fixed_settled<W: FactView>(
 /// and is not made. The Unicode Standard, section 3.13, toNFKC_Casefold.
 ///
 /// - `Memory`: memory ran out.
-fn fixed_by<W: FactView>(
+fn fixed_from_folded<W: FactView>(
     alloc: Global,
     view: &W,
     folding: Folding,
@@ -151,7 +151,7 @@ fn fixed_after_round<W: FactView>(
         let Some(found) = round(alloc, view, folding, last.list.as_slice())? else {
             return Ok(None);
         };
-        let next = found.behind(last.alike);
+        let next = found.alike_only_if(last.alike);
         if same_points(next.list.as_slice(), last.list.as_slice()) {
             return Ok(Some(next));
         }
@@ -172,15 +172,15 @@ fn round<W: FactView>(
     let Some(form) = short_nfkc(alloc, view, s)? else {
         return Ok(None);
     };
-    let alike = are_alike(view, form.as_slice());
-    match folded_form(alloc, view, folding, form.as_slice())? {
+    let alike = all_fold_alike(view, form.as_slice());
+    match round_of_form(alloc, view, folding, form.as_slice())? {
         Some(list) => Ok(Some(Found { list, alike })),
         None => Ok(None),
     }
 }
 
 /// The round of a list with this Normalisation Form KC.
-fn folded_form<W: FactView>(
+fn round_of_form<W: FactView>(
     alloc: Global,
     view: &W,
     folding: Folding,

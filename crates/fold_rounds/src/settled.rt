@@ -29,7 +29,7 @@ fn is_settled_point<W: FactView>(view: &W, c: Point) -> bool
 }
 
 /// Whether a member of a list has a canonical mapping. It takes no memory.
-pub(crate) fn has_composite<W: FactView>(view: &W, s: &[Point]) -> bool
+pub(crate) fn has_canonical_mapping<W: FactView>(view: &W, s: &[Point]) -> bool
     ensures { result ≡ has_composite (W.facts_of view.now) s.now }
 {
     'members: for x in s {

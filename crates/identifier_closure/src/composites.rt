@@ -9,7 +9,12 @@ use ucd_model::{FactView, FactsRef, Point};
 
 /// Whether a code point with these facts and this Normalisation Form C is a primary composite whose mapping a lesser one
 /// has too. If it is its own form, it is not: nothing is looked up. The Unicode Standard, section 3.11, D114.
-pub fn is_hidden<W: FactView>(view: &W, c: Point, facts: &FactsRef<'_>, form: &[Point]) -> bool
+pub fn is_hidden_composite<W: FactView>(
+    view: &W,
+    c: Point,
+    facts: &FactsRef<'_>,
+    form: &[Point],
+) -> bool
     requires facts { shown_facts facts.now ≡ W.facts_of view.now c }
     requires form { nfc (W.facts_of view.now) (c ∷ []) ≡ Ok form.now }
     ensures { result ≡ hidden_of (W.facts_of view.now) c (shown_facts facts.now) }

@@ -11,10 +11,10 @@ ghost use Rattle.identifier_closure.specs.PointForms.{expansion_rule, TellForms}
 
 use crate::casefolds::{Casefolds, casefolds_of};
 use crate::composed_checks::composed_checks;
-use crate::composites::is_hidden;
+use crate::composites::is_hidden_composite;
 use crate::core_set::core_set;
 use crate::identifiers::closure_of;
-use crate::missing_rows::lacks_a_row;
+use crate::missing_rows::some_mapping_lacks_row;
 use crate::point_forms::{FormsRef, forms_of};
 use crate::predicates::ToldByForms;
 use quick_checks::{is_fully_excluded, quick_decomposed};
@@ -46,7 +46,7 @@ fn record_or_rule<W: FactView>(alloc: Global, view: &W, c: Point) -> Result<Reco
     ensures { RecordAnswers result (derived (W.facts_of view.now) c) }
 {
     let facts = view.facts(c);
-    if lacks_a_row(view, c, &facts) {
+    if some_mapping_lacks_row(view, c, &facts) {
         return Err(FormStop::Bad(Bad::V1));
     }
     if let Kind::Plain = facts.kind {
@@ -76,7 +76,7 @@ fn record_with_forms<W: FactView>(
     requires expansions { expansion_rule (W.facts_of view.now) c ≡ None }
     ensures { RecordAnswers result (derived (W.facts_of view.now) c) }
 {
-    if is_hidden(view, c, facts, forms.nfc) {
+    if is_hidden_composite(view, c, facts, forms.nfc) {
         return Err(FormStop::Bad(Bad::V4));
     }
     match casefolds_of(alloc, view, c, facts, forms.nfkc) {

@@ -6,21 +6,21 @@ ghost use Rattle.ucd_model.specs.Identifiers.{continues, starts, xid_start, xid_
 ghost use Rattle.ucd_facts.specs.Predicates.{id_start, id_continue};
 ghost use Rattle.ucd_facts.specs.Shown.{shown_facts};
 
-use crate::predicates::{continues_by, is_id_continue, is_id_start, starts_by};
+use crate::predicates::{is_id_continue, is_id_continue_by, is_id_start, is_id_start_by};
 use ucd_model::{FactView, FactsRef, Point};
 
 /// Whether a code point has ID_Start. UAX #31, section 2, table 2.
 pub fn id_start<W: FactView>(view: &W, c: Point) -> bool
     ensures { result ≡ id_start (W.facts_of view.now c) }
 {
-    starts_by(view.category(c), view.flags(c))
+    is_id_start_by(view.category(c), view.flags(c))
 }
 
 /// Whether a code point has ID_Continue. UAX #31, section 2, table 2.
 pub fn id_continue<W: FactView>(view: &W, c: Point) -> bool
     ensures { result ≡ id_continue (W.facts_of view.now c) }
 {
-    continues_by(view.category(c), view.flags(c))
+    is_id_continue_by(view.category(c), view.flags(c))
 }
 
 /// Whether a code point has XID_Start: it has ID_Start, and its Normalisation Form KC, which is handed in, begins with

@@ -9,39 +9,39 @@ ghost use Rattle.ucd_model.specs.Validity.{lacks_row, mappings};
 use ucd_model::{FactView, FactsRef, Point};
 
 /// Whether a member of one of the mappings of a code point with these facts has no row.
-pub fn lacks_a_row<W: FactView>(view: &W, c: Point, facts: &FactsRef<'_>) -> bool
+pub fn some_mapping_lacks_row<W: FactView>(view: &W, c: Point, facts: &FactsRef<'_>) -> bool
     ensures { result ≡ list_any (lacks_row (W.facts_of view.now) c)
         (mappings c (shown_facts facts.now)) }
 {
-    if lacks_row(view, c, facts.mapping) {
+    if mapping_lacks_row(view, c, facts.mapping) {
         return true;
     }
-    if lacks_simple(view, c, facts.simple_upper) {
+    if simple_lacks_row(view, c, facts.simple_upper) {
         return true;
     }
-    if lacks_simple(view, c, facts.simple_lower) {
+    if simple_lacks_row(view, c, facts.simple_lower) {
         return true;
     }
-    if lacks_simple(view, c, facts.simple_title) {
+    if simple_lacks_row(view, c, facts.simple_title) {
         return true;
     }
-    if lacks_simple(view, c, facts.simple_fold) {
+    if simple_lacks_row(view, c, facts.simple_fold) {
         return true;
     }
-    if lacks_image(view, c, facts.upper) {
+    if image_lacks_row(view, c, facts.upper) {
         return true;
     }
-    if lacks_image(view, c, facts.lower) {
+    if image_lacks_row(view, c, facts.lower) {
         return true;
     }
-    if lacks_image(view, c, facts.title) {
+    if image_lacks_row(view, c, facts.title) {
         return true;
     }
-    lacks_image(view, c, facts.fold)
+    image_lacks_row(view, c, facts.fold)
 }
 
 /// Whether a member of a mapping of a code point has no row. The code point alone is not looked at.
-fn lacks_row<W: FactView>(view: &W, c: Point, mapping: &[Point]) -> bool
+fn mapping_lacks_row<W: FactView>(view: &W, c: Point, mapping: &[Point]) -> bool
     ensures { result ≡ lacks_row (W.facts_of view.now) c mapping.now }
 {
     if matches!(mapping, [only] if *only == c) {
@@ -63,7 +63,7 @@ fn has_member_without_row<W: FactView>(view: &W, points: &[Point]) -> bool
 }
 
 /// Whether a code point that another one is mapped to alone has no row.
-fn lacks_simple<W: FactView>(view: &W, c: Point, member: Point) -> bool
+fn simple_lacks_row<W: FactView>(view: &W, c: Point, member: Point) -> bool
     ensures { result ≡ lacks_row (W.facts_of view.now) c (member ∷ []) }
 {
     if member == c {
@@ -73,12 +73,12 @@ fn lacks_simple<W: FactView>(view: &W, c: Point, member: Point) -> bool
 }
 
 /// Whether a member of an image of a code point has no row.
-fn lacks_image<W: FactView>(view: &W, c: Point, image: Option<&[Point]>) -> bool
+fn image_lacks_row<W: FactView>(view: &W, c: Point, image: Option<&[Point]>) -> bool
     ensures { result ≡ lacks_row (W.facts_of view.now) c
         (image_points c (image_shown image.entry)) }
 {
     match image {
-        Some(points) => lacks_row(view, c, points),
+        Some(points) => mapping_lacks_row(view, c, points),
         None => false,
     }
 }

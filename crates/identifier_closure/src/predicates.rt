@@ -69,7 +69,7 @@ fn is_alphabetic(facts: &FactsRef<'_>) -> bool
 }
 
 /// Whether a code point with these properties is kept for the syntax of patterns. UAX #31, section 4.
-fn is_in_pattern(flags: Flags) -> bool
+fn is_pattern_syntax_or_space(flags: Flags) -> bool
     ensures { (G : Facts) → G.flag ≡ has_flag flags → result ≡ in_pattern G }
 {
     flags.has(Flag::PatternSyntax) || flags.has(Flag::PatternWhiteSpace)
@@ -79,18 +79,19 @@ fn is_in_pattern(flags: Flags) -> bool
 pub fn is_id_start(facts: &FactsRef<'_>) -> bool
     ensures { result ≡ id_start (shown_facts facts.now) }
 {
-    starts_by(facts.category, facts.flags)
+    is_id_start_by(facts.category, facts.flags)
 }
 
 /// Whether a code point with this category and these properties has ID_Start. UAX #31, section 2, table 2.
-pub fn starts_by(category: Category, flags: Flags) -> bool
+pub fn is_id_start_by(category: Category, flags: Flags) -> bool
     ensures { (G : Facts) → G.category ≡ category → G.flag ≡ has_flag flags → result ≡ id_start G }
 {
-    (is_letter(category) || flags.has(Flag::OtherIdStart)) && !is_in_pattern(flags)
+    (is_letter_or_letter_number(category) || flags.has(Flag::OtherIdStart))
+        && !is_pattern_syntax_or_space(flags)
 }
 
 /// Whether the category is that of a letter or of a letter number.
-fn is_letter(category: Category) -> bool
+fn is_letter_or_letter_number(category: Category) -> bool
     ensures { result ≡ is_one_of (Lu ∷ Ll ∷ Lt ∷ Lm ∷ Lo ∷ Nl ∷ []) category }
 {
     matches!(
@@ -103,11 +104,11 @@ fn is_letter(category: Category) -> bool
 pub fn is_id_continue(facts: &FactsRef<'_>) -> bool
     ensures { result ≡ id_continue (shown_facts facts.now) }
 {
-    continues_by(facts.category, facts.flags)
+    is_id_continue_by(facts.category, facts.flags)
 }
 
 /// Whether a code point with this category and these properties has ID_Continue. UAX #31, section 2, table 2.
-pub fn continues_by(category: Category, flags: Flags) -> bool
+pub fn is_id_continue_by(category: Category, flags: Flags) -> bool
     ensures { (G : Facts) → G.category ≡ category → G.flag ≡ has_flag flags
         → result ≡ id_continue G }
 {
@@ -115,8 +116,8 @@ pub fn continues_by(category: Category, flags: Flags) -> bool
         category,
         Category::Mn | Category::Mc | Category::Nd | Category::Pc
     );
-    (starts_by(category, flags) || continues || flags.has(Flag::OtherIdContinue))
-        && !is_in_pattern(flags)
+    (is_id_start_by(category, flags) || continues || flags.has(Flag::OtherIdContinue))
+        && !is_pattern_syntax_or_space(flags)
 }
 
 fn is_grapheme_extend(facts: &FactsRef<'_>) -> bool

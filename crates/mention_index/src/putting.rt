@@ -23,14 +23,14 @@ impl MentionsBuilder {
         let facts = view.facts(c);
         put_members(&mut self.keys, &facts, c)?;
         if facts.is_primary(view) {
-            put_first_step(&mut self.keys, c, facts.mapping)?;
+            put_first_member_step(&mut self.keys, c, facts.mapping)?;
         }
         Ok(())
     }
 }
 
 /// Puts the key of the step from a primary composite to the first member of its mapping.
-fn put_first_step(keys: &mut Vec<u64>, c: Point, mapping: &[Point]) -> Result<(), Memory>
+fn put_first_member_step(keys: &mut Vec<u64>, c: Point, mapping: &[Point]) -> Result<(), Memory>
     ensures grows { (k : ℕ) → has_key keys.old.items k ≡ true → has_key keys.new.items k ≡ true }
     ensures put { OnOk result ((s : ℕ) (rest : List ℕ) → mapping.now ≡ s ∷ rest
         → (s < 1114112) × (has_key keys.new.items (key c s) ≡ true)) }

@@ -7,7 +7,7 @@ use Rattle.ucd_points.specs.Fields.{fields, is_digit}
 use Rattle.ucd_points.specs.declared.files.SourceFile.TheVariants.{PropList}
 use Rattle.ucd_facts.specs.Mappings.{mapping_of}
 use Rattle.source_rows.specs.DataFaults.{at_least_one}
-use Rattle.norm_conformance.specs.Grammar.{IsPart, Spells, HasColumns, LinesAreSaid}
+use Rattle.norm_conformance.specs.Grammar.{IsPart, Spells, HasColumns, LinesAreRead}
 use Rattle.norm_conformance.specs.Lines.{columns_by, columns_in, digit_alone, is_end, is_mark, is_passed, marked, part_of, points_in, said, tested, text_of}
 use Rattle.norm_conformance.specs.declared.columns.Columns.{Columns}
 use Rattle.norm_conformance.specs.declared.line.Line.{Line}
@@ -157,7 +157,7 @@ module _ (content : List ℕ) where
   to_columns : (columns : Columns) → HasColumns content columns → said content ≡ Ok (Tested columns)
   to_columns columns h = rw (h.fields.read, h.fields.unmarked, has_columns content columns h) refl
 
-pub lines_are_said : LinesAreSaid
+pub lines_are_said : LinesAreRead
 lines_are_said content = record {
   passed = (is_passed_only (is_passed content) (is_mark (text_of content)) (part_of (text_of content)) (columns_in (fields PropList content)), (λ e. rw e refl));
   part = λ k. (from_part content k, to_part content k);

@@ -3,7 +3,7 @@
 -- Spells field points         the words of the field are one to 64 code points, and these are the points
 -- HasFields content fs        the line is neither passed over nor begins with `@`, and these are its fields
 -- HasColumns content columns  it has five fields, behind which is nothing or an empty field, and they spell the columns
--- LinesAreSaid                what a line says is what these tell
+-- LinesAreRead                what a line says is what these tell
 -- AreCases part lines cases   the lines, of which the first stands in this part, hold these cases
 --   nothing_left                no lines
 --   passed                      a blank line or a comment, and then such lines
@@ -63,8 +63,8 @@ pub record SaidBy (content : List ℕ) : Type 0 where
   pub part : (k : ℕ) → (said content ≡ Ok (Part k)) ↔ IsPart content k
   pub columns : (columns : Columns) → (said content ≡ Ok (Tested columns)) ↔ HasColumns content columns
 
-abbrev pub LinesAreSaid : Type 0
-LinesAreSaid = (content : List ℕ) → SaidBy content
+abbrev pub LinesAreRead : Type 0
+LinesAreRead = (content : List ℕ) → SaidBy content
 
 -- ---- the lines
 

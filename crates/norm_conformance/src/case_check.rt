@@ -52,15 +52,40 @@ fn check_case<W: FactView>(alloc: Global, view: &W, case: &Case) -> Result<CaseC
 /// Puts the columns of which a form is not as expected.
 ///
 /// - `Memory`: memory ran out.
-fn put_columns(line: u32, form: Form, check: &CaseCheck, misses: &mut Misses) -> Result<(), Memory>
+fn put_missed_columns(
+    line: u32,
+    form: Form,
+    check: &CaseCheck,
+    misses: &mut Misses,
+) -> Result<(), Memory>
     ensures { OnOk result (misses.new ≡ misses.old
         ++ missed_columns line form (kept_at check.now form)) }
 {
-    put_unless(check.c1.keeps(form), column_miss(line, form, 1), misses)?;
-    put_unless(check.c2.keeps(form), column_miss(line, form, 2), misses)?;
-    put_unless(check.c3.keeps(form), column_miss(line, form, 3), misses)?;
-    put_unless(check.c4.keeps(form), column_miss(line, form, 4), misses)?;
-    put_unless(check.c5.keeps(form), column_miss(line, form, 5), misses)?;
+    put_unless(
+        check.c1.is_as_expected(form),
+        column_miss(line, form, 1),
+        misses,
+    )?;
+    put_unless(
+        check.c2.is_as_expected(form),
+        column_miss(line, form, 2),
+        misses,
+    )?;
+    put_unless(
+        check.c3.is_as_expected(form),
+        column_miss(line, form, 3),
+        misses,
+    )?;
+    put_unless(
+        check.c4.is_as_expected(form),
+        column_miss(line, form, 4),
+        misses,
+    )?;
+    put_unless(
+        check.c5.is_as_expected(form),
+        column_miss(line, form, 5),
+        misses,
+    )?;
     Ok(())
 }
 
@@ -84,9 +109,9 @@ pub fn put_misses_of_case<W: FactView>(
     ensures { OnOk result (misses.new ≡ misses.old ++ line_misses (W.facts_of view.now) case.now) }
 {
     let check = check_case(alloc, view, case)?;
-    put_columns(case.line, Form::Nfd, &check, misses)?;
-    put_columns(case.line, Form::Nfc, &check, misses)?;
-    put_columns(case.line, Form::Nfkd, &check, misses)?;
-    put_columns(case.line, Form::Nfkc, &check, misses)?;
+    put_missed_columns(case.line, Form::Nfd, &check, misses)?;
+    put_missed_columns(case.line, Form::Nfc, &check, misses)?;
+    put_missed_columns(case.line, Form::Nfkd, &check, misses)?;
+    put_missed_columns(case.line, Form::Nfkc, &check, misses)?;
     Ok(())
 }

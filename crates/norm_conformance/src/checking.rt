@@ -28,7 +28,7 @@ pub fn misses<W: FactView>(alloc: Global, view: &W, cases: &Cases) -> Result<Mis
     put_misses_of_cases(alloc, view, cases.list.as_slice(), &mut found)?;
     if cases.part_one {
         let listed = listed_points(alloc, cases.list.as_slice())?;
-        put_misses_of_points(alloc, view, &listed, &mut found)?;
+        put_misses_of_unlisted_points(alloc, view, &listed, &mut found)?;
     }
     Ok(found)
 }
@@ -55,7 +55,7 @@ fn put_misses_of_cases<W: FactView>(
 /// Puts what is missed of each assigned code point that is not listed.
 ///
 /// - `Memory`: memory ran out.
-fn put_misses_of_points<W: FactView>(
+fn put_misses_of_unlisted_points<W: FactView>(
     alloc: Global,
     view: &W,
     listed: &KeySet,
@@ -67,7 +67,7 @@ fn put_misses_of_points<W: FactView>(
 {
     let count = point_count();
     'points: for number in 0..count {
-        put_misses_of_point(alloc, view, listed, Point::at(number), found)?;
+        put_misses_if_unlisted(alloc, view, listed, Point::at(number), found)?;
     }
     Ok(())
 }
@@ -76,7 +76,7 @@ fn put_misses_of_points<W: FactView>(
 /// forms.
 ///
 /// - `Memory`: memory ran out.
-fn put_misses_of_point<W: FactView>(
+fn put_misses_if_unlisted<W: FactView>(
     alloc: Global,
     view: &W,
     listed: &KeySet,
@@ -113,10 +113,26 @@ fn put_misses_of_forms<W: FactView>(
         nfkc: &itself,
     };
     let check = check_forms_of_list(alloc, view, &itself, expected)?;
-    put_unless(check.keeps(Form::Nfd), point_miss(c, Form::Nfd), found)?;
-    put_unless(check.keeps(Form::Nfc), point_miss(c, Form::Nfc), found)?;
-    put_unless(check.keeps(Form::Nfkd), point_miss(c, Form::Nfkd), found)?;
-    put_unless(check.keeps(Form::Nfkc), point_miss(c, Form::Nfkc), found)?;
+    put_unless(
+        check.is_as_expected(Form::Nfd),
+        point_miss(c, Form::Nfd),
+        found,
+    )?;
+    put_unless(
+        check.is_as_expected(Form::Nfc),
+        point_miss(c, Form::Nfc),
+        found,
+    )?;
+    put_unless(
+        check.is_as_expected(Form::Nfkd),
+        point_miss(c, Form::Nfkd),
+        found,
+    )?;
+    put_unless(
+        check.is_as_expected(Form::Nfkc),
+        point_miss(c, Form::Nfkc),
+        found,
+    )?;
     Ok(())
 }
 

@@ -8,7 +8,7 @@ ghost use Rattle.norm_conformance.specs.Lines.{columns_by, columns_in, is_end, p
 
 use crate::case::Case;
 use crate::stop::CaseRule;
-use source_rows::{Mapping, some_mapping_of};
+use source_rows::{Mapping, nonempty_mapping_of};
 use std::alloc::Global;
 use ucd_lines::{Fields, fields};
 use ucd_model::{Memory, SourceFile};
@@ -99,11 +99,11 @@ fn five_columns<'a>(
         (points_in f4.now) (points_in f5.now) }
 {
     let (Some(c1), Some(c2), Some(c3), Some(c4), Some(c5)) = (
-        some_mapping_of(f1),
-        some_mapping_of(f2),
-        some_mapping_of(f3),
-        some_mapping_of(f4),
-        some_mapping_of(f5),
+        nonempty_mapping_of(f1),
+        nonempty_mapping_of(f2),
+        nonempty_mapping_of(f3),
+        nonempty_mapping_of(f4),
+        nonempty_mapping_of(f5),
     ) else {
         return Err(CaseRule::N2);
     };

@@ -30,7 +30,7 @@ pub struct FormCheck {
 
 impl FormCheck {
     /// Whether this form is as expected.
-    pub fn keeps(&self, form: Form) -> bool
+    pub fn is_as_expected(&self, form: Form) -> bool
         ensures { result ≡ kept_in self.now form }
     {
         match form {

@@ -1,10 +1,10 @@
 //! Laws on NormalizationTest.txt: each function here does nothing, and its contract is a law.
 
-ghost use Rattle.norm_conformance.specs.Grammar.{CasesAreRead, FaultsAreFirst, LinesAreSaid};
+ghost use Rattle.norm_conformance.specs.Grammar.{CasesAreRead, FaultsAreFirst, LinesAreRead};
 
 /// A line is passed over, names a part or is a case exactly if the grammar of the file says so.
-pub fn lines_are_said()
-    ensures { LinesAreSaid }
+pub fn lines_are_read()
+    ensures { LinesAreRead }
 {}
 
 /// A file has cases exactly if its lines hold them: lines that are passed over, lines of a part, and cases, each in the part

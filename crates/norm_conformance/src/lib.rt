@@ -16,7 +16,7 @@ mod stop;
 
 pub use case::{Case, CaseList, Cases};
 pub use checking::misses;
-pub use laws::{cases_are_read, faults_are_first, lines_are_said};
+pub use laws::{cases_are_read, faults_are_first, lines_are_read};
 pub use miss::{Miss, Misses};
 pub use reading::read_cases;
 pub use stop::{CaseRule, CaseStop};

@@ -9,7 +9,7 @@
 -- BlockedStay                  one more point that is blocked from the last starter stays at the end
 -- UnpairedStay                 so does one that has no composite with the last starter
 -- StarterlessStay              and one before which no starter is
--- NothingComposes              no points compose to none, so that these laws tell the composition of each list
+-- EmptyComposesToEmpty              no points compose to none, so that these laws tell the composition of each list
 use Rattle.std.specs.Prelude.{◌≡◌, ℕ, Bool, true, false, not, ◌||◌, List, [], ◌∷◌, ◌++◌, nat_le, ◌==◌, Option, Some, None}
 use Rattle.std.specs.List.{list_any, list_all}
 use Rattle.ucd_model.specs.Composition.{compose}
@@ -41,5 +41,5 @@ abbrev pub StarterlessStay : Type 0
 StarterlessStay = (class : ℕ → ℕ) (pair : ℕ → ℕ → Option ℕ) (xs : List ℕ) (y : ℕ) → has_no_starter class (compose class pair xs) ≡ true
     → compose class pair (xs ++ y ∷ []) ≡ compose class pair xs ++ y ∷ []
 
-abbrev pub NothingComposes : Type 0
-NothingComposes = (class : ℕ → ℕ) (pair : ℕ → ℕ → Option ℕ) → compose class pair [] ≡ []
+abbrev pub EmptyComposesToEmpty : Type 0
+EmptyComposesToEmpty = (class : ℕ → ℕ) (pair : ℕ → ℕ → Option ℕ) → compose class pair [] ≡ []

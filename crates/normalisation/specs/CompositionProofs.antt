@@ -12,7 +12,7 @@ use Rattle.std.proofs.lemmas.Bool.Decides.{nat_tests}
 use Rattle.std.proofs.lemmas.Bool.{and_parts, not-true}
 use Rattle.ucd_model.specs.Composition.{is_open, where_open, last_starter, reached, with_composite, with_point, composed_with, compose_onto, compose}
 use Rattle.normalisation.specs.StarterLemmas.{last_starter_at}
-use Rattle.normalisation.specs.CompositionLaws.{has_no_starter, is_blocked, LastStarter, CompositesReplace, BlockedStay, UnpairedStay, StarterlessStay, NothingComposes}
+use Rattle.normalisation.specs.CompositionLaws.{has_no_starter, is_blocked, LastStarter, CompositesReplace, BlockedStay, UnpairedStay, StarterlessStay, EmptyComposesToEmpty}
 
 pub compose_onto-append : (class : ℕ → ℕ) (pair : ℕ → ℕ → Option ℕ) (done xs ys : List ℕ) → compose_onto class pair done (xs ++ ys) ≡ compose_onto class pair (compose_onto class pair done xs) ys
 compose_onto-append class pair done [] ys = refl
@@ -77,5 +77,5 @@ unpaired_stay class pair xs before after s y last e = compose_push class pair xs
 pub starterless_stay : StarterlessStay
 starterless_stay class pair xs y none = compose_push class pair xs y ∙ ap (λ cut. with_point pair (compose class pair xs) y (where_open class y cut)) (no_last_starter class (compose class pair xs) none)
 
-pub nothing_composes : NothingComposes
+pub nothing_composes : EmptyComposesToEmpty
 nothing_composes class pair = refl

@@ -5,7 +5,7 @@
 -- NfcTwice, NfkcTwice           so is NFC of NFC, and NFKC of NFKC, where each code point has its expansion
 -- NfdOfNfc, NfkdOfNfkc          the NFD of the NFC of a list is its NFD, and the NFKD of its NFKC is its NFKD, where each code
 --                               point has its expansion
--- NfcOfMembers, NfkcOfMembers   the NFC of each member alone of an NFC is that member, and so for NFKC, where each code point has
+-- NfcMembersStay, NfkcMembersStay   the NFC of each member alone of an NFC is that member, and so for NFKC, where each code point has
 --                               its expansion
 -- FormsAreTogether              the four forms of a list are together exactly where each of them is there
 -- PlainForms                    each form of a code point without a mapping is that code point
@@ -43,11 +43,11 @@ NfdOfNfc = (F : ℕ → Facts) (s t : List ℕ) → HaveExpansions F false → n
 abbrev pub NfkdOfNfkc : Type 0
 NfkdOfNfkc = (F : ℕ → Facts) (s t : List ℕ) → HaveExpansions F true → nfkc F s ≡ Ok t → nfkd F t ≡ nfkd F s
 
-abbrev pub NfcOfMembers : Type 0
-NfcOfMembers = (F : ℕ → Facts) (s t : List ℕ) → HaveExpansions F false → nfc F s ≡ Ok t → All (λ x. nfc F (x ∷ []) ≡ Ok (x ∷ [])) t
+abbrev pub NfcMembersStay : Type 0
+NfcMembersStay = (F : ℕ → Facts) (s t : List ℕ) → HaveExpansions F false → nfc F s ≡ Ok t → All (λ x. nfc F (x ∷ []) ≡ Ok (x ∷ [])) t
 
-abbrev pub NfkcOfMembers : Type 0
-NfkcOfMembers = (F : ℕ → Facts) (s t : List ℕ) → HaveExpansions F true → nfkc F s ≡ Ok t → All (λ x. nfkc F (x ∷ []) ≡ Ok (x ∷ [])) t
+abbrev pub NfkcMembersStay : Type 0
+NfkcMembersStay = (F : ℕ → Facts) (s t : List ℕ) → HaveExpansions F true → nfkc F s ≡ Ok t → All (λ x. nfkc F (x ∷ []) ≡ Ok (x ∷ [])) t
 
 abbrev pub FormsAreTogether : Type 0
 FormsAreTogether = (F : ℕ → Facts) (s : List ℕ) (forms : Forms) → (four_forms F s ≡ Ok forms) ↔ AreForms F s forms

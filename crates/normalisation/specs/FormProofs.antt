@@ -14,7 +14,7 @@ use Rattle.ucd_model.specs.Forms.{appended, expansions, in_order, decomposed, co
 use Rattle.normalisation.specs.OrderLemmas.{Ordered, order-ordered, order_is_ordered}
 use Rattle.normalisation.specs.StableLemmas.{Alone, Stable, stable_compose}
 use Rattle.normalisation.specs.OrderProofs.{order_twice}
-use Rattle.normalisation.specs.FormLaws.{HaveExpansions, NfdTwice, NfkdTwice, NfcTwice, NfkcTwice, NfdOfNfc, NfkdOfNfkc, NfcOfMembers, NfkcOfMembers}
+use Rattle.normalisation.specs.FormLaws.{HaveExpansions, NfdTwice, NfkdTwice, NfcTwice, NfkcTwice, NfdOfNfc, NfkdOfNfkc, NfcMembersStay, NfkcMembersStay}
 use Rattle.normalisation.specs.ExpandedLemmas.{Unmapped, Each-order, ok_same, expansions_unmapped, expansions_full}
 
 -- what is decomposed: in order, and nothing in it is mapped
@@ -93,8 +93,8 @@ nfc_twice F s t have is = composed_twice F false s t have is
 pub nfkc_twice : NfkcTwice
 nfkc_twice F s t have is = composed_twice F true s t have is
 
-pub nfc_of_members : NfcOfMembers
+pub nfc_of_members : NfcMembersStay
 nfc_of_members F s t have is = composed_members F false s t have is
 
-pub nfkc_of_members : NfkcOfMembers
+pub nfkc_of_members : NfkcMembersStay
 nfkc_of_members F s t have is = composed_members F true s t have is

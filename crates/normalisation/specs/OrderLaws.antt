@@ -8,7 +8,7 @@
 -- OrderIsOnly             whatever pairs are exchanged, and in whatever turn: where none is left, the list is the ordered one
 -- OrderTwice              what is in order stays
 -- StartersStay            a point of class 0 stays at the end
--- MarksMove               a point of another class is moved before the points directly before it that have a greater class, and
+-- NonstartersPassGreaterClasses               a point of another class is moved before the points directly before it that have a greater class, and
 --                         no further
 -- EqualsKeepOrder         the points of one class keep their order
 use Rattle.std.specs.Prelude.{◌≡◌, ℕ, ◌<◌, ◌≤◌, List, [], ◌∷◌, ◌++◌, ◌==◌, filter, All}
@@ -36,8 +36,8 @@ OrderTwice = (class : ℕ → ℕ) (xs : List ℕ) → order class (order class 
 abbrev pub StartersStay : Type 0
 StartersStay = (class : ℕ → ℕ) (xs : List ℕ) (y : ℕ) → class y ≡ 0 → order class (xs ++ y ∷ []) ≡ order class xs ++ y ∷ []
 
-abbrev pub MarksMove : Type 0
-MarksMove = (class : ℕ → ℕ) (xs before after : List ℕ) (x y : ℕ) → 0 < class y → All (λ m. class y < class m) after
+abbrev pub NonstartersPassGreaterClasses : Type 0
+NonstartersPassGreaterClasses = (class : ℕ → ℕ) (xs before after : List ℕ) (x y : ℕ) → 0 < class y → All (λ m. class y < class m) after
     → (order class xs ≡ after → order class (xs ++ y ∷ []) ≡ y ∷ after)
     × (order class xs ≡ before ++ x ∷ after → class x ≤ class y → order class (xs ++ y ∷ []) ≡ before ++ x ∷ y ∷ after)
 

@@ -7,7 +7,7 @@ use Rattle.std.proofs.lemmas.Bool.Decides.{nat_tests}
 use Rattle.std.proofs.lemmas.List.Elements.{All-head, All-tail, filter-append}
 use Rattle.std.proofs.Math.Bool.{and-false}
 use Rattle.ucd_model.specs.CanonicalOrder.{greater, placed, with_next, order_onto, order}
-use Rattle.normalisation.specs.OrderLaws.{Exchanges, ended, exchanged, InOrder, OrderIsReached, OrderIsOnly, OrderTwice, StartersStay, MarksMove, EqualsKeepOrder}
+use Rattle.normalisation.specs.OrderLaws.{Exchanges, ended, exchanged, InOrder, OrderIsReached, OrderIsOnly, OrderTwice, StartersStay, NonstartersPassGreaterClasses, EqualsKeepOrder}
 use Rattle.normalisation.specs.OrderLemmas.{Ordered, Ordered-back, with_next_starter, with_next_mark, order_onto-append, order-ordered, order_is_ordered, with_next_either}
 
 pub order_twice : OrderTwice
@@ -109,7 +109,7 @@ placed_behind : (class : ℕ → ℕ) (y x : ℕ) (before after : List ℕ) → 
 placed_behind class y x [] after all le = rw (stops_at (greater class y) [] after x (le-ltb (class y) (class x) le), placed_first class y after all) refl
 placed_behind class y x (b ∷ before) after all le = rw (stops_at (greater class y) (b ∷ before) after x (le-ltb (class y) (class x) le)) (ap (λ zs. b ∷ zs) (placed_behind class y x before after all le))
 
-pub marks_move : MarksMove
+pub marks_move : NonstartersPassGreaterClasses
 marks_move class xs before after x y some all =
     let greater_all = all_greater class y after all in (
       λ is. order_push class xs y ∙ with_next_mark class (order class xs) y some ∙ ap (placed class y) is ∙ placed_first class y after greater_all,

@@ -35,13 +35,13 @@ pub fn compose<W: FactView>(view: &W, s: &mut Points)
         starter: None,
     };
     'points: for at in 0..s.len() {
-        so_far = put_next(view, s, so_far, at);
+        so_far = compose_next(view, s, so_far, at);
     }
     s.truncate(so_far.len);
 }
 
 /// Composes the code point at `at` with what is composed so far.
-fn put_next<W: FactView>(view: &W, s: &mut Points, so_far: SoFar, at: usize) -> SoFar
+fn compose_next<W: FactView>(view: &W, s: &mut Points, so_far: SoFar, at: usize) -> SoFar
     requires within { at < length s.old }
     requires so_far { so_far.len ≤ at }
     requires starter { Describes (class_of (W.facts_of view.now))

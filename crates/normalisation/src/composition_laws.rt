@@ -1,6 +1,6 @@
 //! The laws of composition: each function here does nothing, and its contract is a law.
 
-ghost use Rattle.normalisation.specs.CompositionLaws.{CompositesReplace, BlockedStay, UnpairedStay, StarterlessStay, NothingComposes};
+ghost use Rattle.normalisation.specs.CompositionLaws.{CompositesReplace, BlockedStay, UnpairedStay, StarterlessStay, EmptyComposesToEmpty};
 
 /// One more code point that is not blocked from the last starter, and has a composite with it, is joined with it.
 /// The Unicode Standard, section 3.11, D117.
@@ -24,6 +24,6 @@ pub fn starterless_stay()
 {}
 
 /// No code points compose to none.
-pub fn nothing_composes()
-    ensures { NothingComposes }
+pub fn empty_composes_to_empty()
+    ensures { EmptyComposesToEmpty }
 {}

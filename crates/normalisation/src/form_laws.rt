@@ -1,6 +1,6 @@
 //! The laws of the forms: each function here does nothing, and its contract is a law. UAX #15, section 1.2.
 
-ghost use Rattle.normalisation.specs.FormLaws.{NfdTwice, NfkdTwice, NfcTwice, NfkcTwice, NfdOfNfc, NfkdOfNfkc, NfcOfMembers, NfkcOfMembers, FormsAreTogether, PlainForms};
+ghost use Rattle.normalisation.specs.FormLaws.{NfdTwice, NfkdTwice, NfcTwice, NfkcTwice, NfdOfNfc, NfkdOfNfkc, NfcMembersStay, NfkcMembersStay, FormsAreTogether, PlainForms};
 
 /// Normalisation Form D of its own result is that result.
 pub fn nfd_twice()
@@ -34,14 +34,14 @@ pub fn nfkd_of_nfkc()
 {}
 
 /// If every code point has a canonical expansion, Normalisation Form C of a member of its result is that member.
-pub fn nfc_of_members()
-    ensures { NfcOfMembers }
+pub fn nfc_members_stay()
+    ensures { NfcMembersStay }
 {}
 
 /// If every code point has a compatibility expansion, Normalisation Form KC of a member of its result is that
 /// member.
-pub fn nfkc_of_members()
-    ensures { NfkcOfMembers }
+pub fn nfkc_members_stay()
+    ensures { NfkcMembersStay }
 {}
 
 /// The four forms of a list are together exactly if each of them is there.

@@ -1,6 +1,6 @@
 //! The laws of canonical order: each function here does nothing, and its contract is a law.
 
-ghost use Rattle.normalisation.specs.OrderLaws.{OrderIsReached, OrderIsOnly, OrderTwice, StartersStay, MarksMove, EqualsKeepOrder};
+ghost use Rattle.normalisation.specs.OrderLaws.{OrderIsReached, OrderIsOnly, OrderTwice, StartersStay, NonstartersPassGreaterClasses, EqualsKeepOrder};
 
 /// The ordered list comes from the list by exchanging neighbours of which the first has the greater class and the
 /// second is no starter, and no such neighbours are left. The Unicode Standard, section 3.11, D109.
@@ -24,8 +24,8 @@ pub fn starters_stay()
 {}
 
 /// One more code point of another class is moved before the ones directly before it that have a greater class.
-pub fn marks_move()
-    ensures { MarksMove }
+pub fn nonstarters_pass_greater_classes()
+    ensures { NonstartersPassGreaterClasses }
 {}
 
 /// The code points of one class keep their order.

@@ -31,7 +31,7 @@ impl KeySet {
     pub fn of(alloc: Global, keys: Vec<u64>) -> KeySet
         ensures { (k : ℕ) → has result k ≡ is_in keys.items k }
     {
-        let sorted = ascending(keys);
+        let sorted = sorted_distinct(keys);
         let buckets = Buckets::of(alloc, &sorted);
         KeySet {
             sorted,
@@ -84,7 +84,7 @@ impl KeySet {
 }
 
 /// The numbers of a list in ascending order, each of them once. It takes no memory, and gives back what is spare.
-fn ascending(mut keys: Vec<u64>) -> Vec<u64>
+fn sorted_distinct(mut keys: Vec<u64>) -> Vec<u64>
     ensures same { (k : ℕ) → is_in result.items k ≡ is_in keys.items k }
     ensures ascends { IsStrictlyIncreasing result.items }
 {
@@ -100,34 +100,34 @@ fn next_in_sorted(sorted: &[u64], begin: usize, end: usize, start: u64) -> Optio
     requires { IsStrictlyIncreasing sorted.now }
     ensures { IsNext (is_in sorted.now) start result }
 {
-    let place = place_of(sorted, begin, end, start);
+    let place = lower_bound(sorted, begin, end, start);
     sorted.get(place).copied()
 }
 
 /// The place of the first number of an ascending list that is not below `start`.
-fn place_of(sorted: &[u64], begin: usize, end: usize, start: u64) -> usize
+fn lower_bound(sorted: &[u64], begin: usize, end: usize, start: u64) -> usize
     requires { IsStrictlyIncreasing sorted.now }
     ensures { IsBetween sorted.now start result result }
 {
-    if is_between(sorted, begin, end, start) {
-        return place_between(sorted, begin, end, start);
+    if is_lower_bound_between(sorted, begin, end, start) {
+        return lower_bound_between(sorted, begin, end, start);
     }
-    place_between(sorted, 0, sorted.len(), start)
+    lower_bound_between(sorted, 0, sorted.len(), start)
 }
 
 /// Whether it is known by two looks that the place stands from `begin` to `end`.
-fn is_between(sorted: &[u64], begin: usize, end: usize, start: u64) -> bool
+fn is_lower_bound_between(sorted: &[u64], begin: usize, end: usize, start: u64) -> bool
     requires { IsStrictlyIncreasing sorted.now }
     ensures { IsTrue result → IsBetween sorted.now start begin end }
 {
     begin <= end
         && end <= sorted.len()
-        && is_behind(sorted, begin, start)
-        && is_before(sorted, end, start)
+        && is_lower_bound_from(sorted, begin, start)
+        && is_lower_bound_up_to(sorted, end, start)
 }
 
 /// Whether the numbers before a place are below `start`.
-fn is_behind(sorted: &[u64], begin: usize, start: u64) -> bool
+fn is_lower_bound_from(sorted: &[u64], begin: usize, start: u64) -> bool
     requires ascends { IsStrictlyIncreasing sorted.now }
     requires within { begin ≤ length sorted.now }
     ensures { IsTrue result → (i d : ℕ) → i < begin → slice_index_or sorted.now i d < start }
@@ -136,7 +136,7 @@ fn is_behind(sorted: &[u64], begin: usize, start: u64) -> bool
 }
 
 /// Whether the numbers from a place on are not below `start`.
-fn is_before(sorted: &[u64], end: usize, start: u64) -> bool
+fn is_lower_bound_up_to(sorted: &[u64], end: usize, start: u64) -> bool
     requires ascends { IsStrictlyIncreasing sorted.now }
     requires within { end ≤ length sorted.now }
     ensures { IsTrue result → (i d : ℕ) → end ≤ i → i < length sorted.now
@@ -146,7 +146,7 @@ fn is_before(sorted: &[u64], end: usize, start: u64) -> bool
 }
 
 /// The place of the first number of an ascending list that is not below `start`, which stands from `begin` to `end`.
-fn place_between(sorted: &[u64], begin: usize, end: usize, start: u64) -> usize
+fn lower_bound_between(sorted: &[u64], begin: usize, end: usize, start: u64) -> usize
     requires ascends { IsStrictlyIncreasing sorted.now }
     requires between { IsBetween sorted.now start begin end }
     ensures { IsBetween sorted.now start result result }

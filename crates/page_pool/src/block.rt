@@ -26,7 +26,7 @@ pub fn read(words: &[u64], at: usize) -> u64
 }
 
 /// Writes 0 from an index on, over the words of a page.
-pub fn clear(words: &mut [u64], from: usize)
+pub fn clear_page(words: &mut [u64], from: usize)
     requires { from + 256 ≤ length words.old }
     ensures zeros { (a : ℕ) → a < 256 → slice_index words.new (from + a) ≡ 0 }
     ensures before { (k : ℕ) → k < from → slice_index words.new k ≡ slice_index words.old k }
@@ -38,7 +38,7 @@ pub fn clear(words: &mut [u64], from: usize)
 }
 
 /// Copies the words of a page from an index on over those of another page.
-pub fn copy_words(words: &mut [u64], from: usize, to: usize)
+pub fn copy_page(words: &mut [u64], from: usize, to: usize)
     requires from { from + 256 ≤ length words.old }
     requires to { to + 256 ≤ length words.old }
     requires apart { (from + 256 ≤ to) ⊎ (to + 256 ≤ from) }

@@ -4,7 +4,7 @@ ghost use Rattle.std.specs.Prelude.{◌≡◌, ◌≢◌, ℕ, ◌+◌, ◌*◌,
 ghost use Rattle.std.specs.List.{range_with_len};
 ghost use Rattle.page_pool.specs.Pool.{Pool, is_live, word_of, spare};
 
-use crate::block::{WORDS, clear, copy_words, put, read};
+use crate::block::{WORDS, clear_page, copy_page, put, read};
 use crate::free::{add_free, give_free, take_free};
 use std::alloc::Global;
 use std::marker::Model;
@@ -90,7 +90,7 @@ impl PagePool {
         ensures spare { spare self.new + 1 ≡ spare self.old }
     {
         let page = take_free(&mut self.live, &mut self.free);
-        clear(self.words.as_mut_slice(), page as usize * WORDS);
+        clear_page(self.words.as_mut_slice(), page as usize * WORDS);
         page
     }
 
@@ -141,7 +141,7 @@ impl PagePool {
         ensures live { (p : ℕ) → is_live self.new p ≡ is_live self.old p }
         ensures spare { spare self.new ≡ spare self.old }
     {
-        copy_words(
+        copy_page(
             self.words.as_mut_slice(),
             from as usize * WORDS,
             to as usize * WORDS,

@@ -9,7 +9,7 @@ use crate::block::Block;
 use crate::layers::{BLOCKS, WIDTH, copy_touched_blocks};
 use crate::next::{make_own_blocks, next_blocks};
 use crate::span::prepare_span;
-use crate::stretches::last_alike;
+use crate::stretches::last_of_stretch_from;
 use crate::value::value_in;
 use page_pool::PagePool;
 use range_table::{Stretches, Table};
@@ -167,11 +167,11 @@ impl Table<u64> for PagedTable {
 
 impl Stretches<u64> for PagedTable {
     fn last_of_stretch(&self, c: Point) -> Point {
-        last_alike(&self.pool, &self.committed, c)
+        last_of_stretch_from(&self.pool, &self.committed, c)
     }
 
     fn last_of_stretch_next(&self, c: Point) -> Point {
-        last_alike(&self.pool, next_blocks(&self.committed, &self.prepared), c)
+        last_of_stretch_from(&self.pool, next_blocks(&self.committed, &self.prepared), c)
     }
 }
 

@@ -18,7 +18,7 @@ pub fn put_part(pool: &mut PagePool, now: Block, next: Block, lo: u8, hi: u8, va
     ensures puts { Puts pool.old pool.new now next result lo hi value }
     ensures room { spare pool.old ≤ spare pool.new + 1 }
 {
-    if is_even_after(pool, next, lo, hi, value) {
+    if has_one_value_after(pool, next, lo, hi, value) {
         return put_whole(pool, now, next, value);
     }
     let page = own_page(pool, now, next);
@@ -60,19 +60,19 @@ pub fn give_back_own_page(pool: &mut PagePool, now: Block, next: Block)
 }
 
 /// Whether all values of a block are equal to `value` once those from `lo` to `hi` are.
-fn is_even_after(pool: &PagePool, block: Block, lo: u8, hi: u8, value: u64) -> bool
+fn has_one_value_after(pool: &PagePool, block: Block, lo: u8, hi: u8, value: u64) -> bool
     requires { (p : ℕ) → is_page p block ≡ true → is_live pool.now p ≡ true }
     ensures even { IsTrue result → IsOutside (value_of pool.now block) lo hi value }
     ensures uneven { IsOutside (value_of pool.now block) lo hi value → IsTrue result }
 {
     match block {
         Block::One(word) => word == value || (lo == 0 && hi == 255),
-        Block::Page(page) => is_even_outside(pool, page, lo, hi, value),
+        Block::Page(page) => has_one_value_outside(pool, page, lo, hi, value),
     }
 }
 
 /// Whether all words of a page outside of `lo` to `hi` are equal to `value`.
-fn is_even_outside(pool: &PagePool, page: u32, lo: u8, hi: u8, value: u64) -> bool
+fn has_one_value_outside(pool: &PagePool, page: u32, lo: u8, hi: u8, value: u64) -> bool
     requires { is_live pool.now page ≡ true }
     ensures even { IsTrue result → IsOutside (word_of pool.now page) lo hi value }
     ensures uneven { IsOutside (word_of pool.now page) lo hi value → IsTrue result }

@@ -16,7 +16,7 @@ const REACH: usize = 16;
 
 /// The last code point of a stretch of equal values that begins at a code point. It ends where the value changes, or at
 /// the end of a block: that of the code point, or that of one of the 16 behind it.
-pub fn last_alike(pool: &PagePool, blocks: &[Block], c: Point) -> Point
+pub fn last_of_stretch_from(pool: &PagePool, blocks: &[Block], c: Point) -> Point
     requires count { length blocks.now ≡ 4352 }
     requires live { (b p : ℕ) → is_page p (block_at blocks.now b) ≡ true
         → is_live pool.now p ≡ true }
@@ -28,10 +28,10 @@ pub fn last_alike(pool: &PagePool, blocks: &[Block], c: Point) -> Point
 {
     let block = (c.number() / WIDTH) as usize;
     let at = (c.number() % WIDTH) as u8;
-    let last = last_in_block(pool, blocks[block], at);
+    let last = last_alike_in_block(pool, blocks[block], at);
     let end = if last == 255 {
         let value = value_in(pool, blocks[block], at);
-        last_block(blocks, block, value)
+        last_alike_block(blocks, block, value)
     } else {
         block
     };
@@ -39,7 +39,7 @@ pub fn last_alike(pool: &PagePool, blocks: &[Block], c: Point) -> Point
 }
 
 /// The last place of a block up to which the values are those of a place.
-fn last_in_block(pool: &PagePool, block: Block, at: u8) -> u8
+fn last_alike_in_block(pool: &PagePool, block: Block, at: u8) -> u8
     requires { (p : ℕ) → is_page p block ≡ true → is_live pool.now p ≡ true }
     ensures from { at ≤ result }
     ensures same { (a : ℕ) → at ≤ a → a ≤ result
@@ -59,7 +59,7 @@ fn last_in_block(pool: &PagePool, block: Block, at: u8) -> u8
 }
 
 /// The last of the blocks behind a block, one after another, that have the value throughout, and at most 16 of them.
-fn last_block(blocks: &[Block], block: usize, value: u64) -> usize
+fn last_alike_block(blocks: &[Block], block: usize, value: u64) -> usize
     requires count { length blocks.now ≡ 4352 }
     requires block { block < 4352 }
     ensures from { block ≤ result }

@@ -45,7 +45,11 @@ fn drop_empty<T: Copy>(parts: &mut Vec<Part<T>>)
 
 /// Drops the parts that have no entries, of parts that are not edited and of which some shrank. If some go, others move into other
 /// blocks, so no block keeps its bounds. It takes no memory.
-pub fn tidy<T: Copy>(parts: &mut Vec<Part<T>>, guides: &mut Vec<Reach>, some_shrank: bool)
+pub fn drop_empty_if_shrunk<T: Copy>(
+    parts: &mut Vec<Part<T>>,
+    guides: &mut Vec<Reach>,
+    some_shrank: bool,
+)
     requires settled { map committed parts.old.items ≡ parts.old.items }
     requires covers { Covers guides.old.items (parts_next parts.old.items) }
     ensures now { flat (parts_now parts.new.items) ≡ flat (parts_now parts.old.items) }
@@ -60,7 +64,7 @@ pub fn tidy<T: Copy>(parts: &mut Vec<Part<T>>, guides: &mut Vec<Reach>, some_shr
 }
 
 /// Cuts a part in two if it has grown long. If there is no memory for that, it stays whole.
-pub fn split<T: Copy>(alloc: Global, parts: &mut Vec<Part<T>>, slot: usize)
+pub fn split_if_long<T: Copy>(alloc: Global, parts: &mut Vec<Part<T>>, slot: usize)
     requires { slot < vec_len parts.old }
     ensures now { flat (parts_now parts.new.items) ≡ flat (parts_now parts.old.items) }
     ensures next { flat (parts_next parts.new.items) ≡ flat (parts_next parts.old.items) }
@@ -73,18 +77,18 @@ pub fn split<T: Copy>(alloc: Global, parts: &mut Vec<Part<T>>, slot: usize)
     }
     let half = entries.len() / 2;
     if let Ok(rest) = Vec::from_slice(alloc, &entries[half..]) {
-        put_behind(
+        split_at_half(
             parts,
             slot,
             half,
-            Part::added(alloc, ListOf::from_vec(rest)),
+            Part::with_next_only(alloc, ListOf::from_vec(rest)),
         );
     }
 }
 
 /// Keeps the first `half` entries next of an edited part, and puts a part with the others behind it.
 /// If there is no memory for that, it changes nothing.
-fn put_behind<T: Copy>(parts: &mut Vec<Part<T>>, slot: usize, half: usize, behind: Part<T>)
+fn split_at_half<T: Copy>(parts: &mut Vec<Part<T>>, slot: usize, half: usize, behind: Part<T>)
     requires part { slot < vec_len parts.old }
     requires edited { (d : _) → (slice_index_or parts.old.items slot d).edited ≡ true }
     requires now { behind.now ≡ [] }

@@ -15,7 +15,7 @@ use crate::now_or_next::NowOrNext;
 use crate::part::Part;
 use crate::put::Put;
 use crate::seek::Seek;
-use crate::seen_numbers::entry_count;
+use crate::seen_numbers::next_entry_count;
 use number_sets::BitSet;
 use std::alloc::Global;
 use ucd_points::Point;
@@ -54,7 +54,7 @@ fn some_unordered<T: Copy>(parts: &[Part<T>]) -> bool {
 }
 
 /// Whether there are code points from `first` to `last`, fewer than a wide entry has, and none of them is in.
-fn are_clear(points: &BitSet, first: u32, last: u32) -> bool
+fn are_few_and_absent(points: &BitSet, first: u32, last: u32) -> bool
     ensures some { result ≡ true → first ≤ last }
     ensures none { result ≡ true → NoneSet points.now first last }
 {
@@ -87,7 +87,7 @@ impl<T: Copy> Known<T> {
         ensures { result ≡ true → (entry : Entry T) → IsHeld self.now entry
             → S.passing seek.now entry ≡ false }
     {
-        are_clear(&self.points, first, last) && first_in(&self.wide, seek).is_none()
+        are_few_and_absent(&self.points, first, last) && first_in(&self.wide, seek).is_none()
     }
 }
 
@@ -168,7 +168,7 @@ impl<T: Copy> Cover<T> {
         }
         let mut cover = Cover {
             known: Known::none(alloc),
-            left: (entry_count(parts) / 2).saturating_add(FEW),
+            left: (next_entry_count(parts) / 2).saturating_add(FEW),
         };
         'parts: for part in parts {
             cover.put_part(part);

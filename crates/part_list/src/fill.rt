@@ -5,7 +5,7 @@ ghost use Rattle.part_list.specs.Parts.{flat, part_at, place, spliced};
 ghost use Rattle.part_list.specs.PartValues.{parts_now, parts_next};
 ghost use Rattle.part_list.specs.Puts.{put_entries};
 
-use crate::change::split;
+use crate::change::split_if_long;
 use crate::entry::Entry;
 use crate::part::Part;
 use crate::put::Put;
@@ -76,14 +76,14 @@ pub fn edit<T: Copy>(
     ensures err { OnErr result (parts.new.items ≡ parts.old.items) }
 {
     splice(alloc, parts, spot, removed, put)?;
-    split(alloc, parts, spot.slot);
+    split_if_long(alloc, parts, spot.slot);
     Ok(())
 }
 
 /// Puts an entry next into a list without parts.
 ///
 /// - `Memory`: memory ran out. The parts stay as they were.
-pub fn begin<T: Copy>(
+pub fn put_first_entry<T: Copy>(
     alloc: Global,
     parts: &mut Vec<Part<T>>,
     entry: Entry<T>,
@@ -95,6 +95,6 @@ pub fn begin<T: Copy>(
 {
     let mut entries = ListOf::new(alloc);
     entries.push(entry)?;
-    parts.push(Part::added(alloc, entries))?;
+    parts.push(Part::with_next_only(alloc, entries))?;
     Ok(())
 }

@@ -15,7 +15,7 @@ use crate::seek::Seek;
 const WIDTH: usize = 16;
 
 /// Bounds that the entries next of some parts are within.
-fn joined<T: Copy>(parts: &[Part<T>]) -> Reach
+fn joined_reach<T: Copy>(parts: &[Part<T>]) -> Reach
     ensures { (k : ℕ) → All (IsWithin result) (part_at (parts_next parts.now) k) }
 {
     let mut reach = Reach::NONE;
@@ -33,7 +33,7 @@ pub fn renew_all<T: Copy>(guides: &mut Vec<Reach>, parts: &[Part<T>])
     let mut from = 0;
     'blocks: while from < parts.len() {
         let to = from.saturating_add(WIDTH).min(parts.len());
-        let Ok(()) = guides.push(joined(&parts[from..to])) else {
+        let Ok(()) = guides.push(joined_reach(&parts[from..to])) else {
             return;
         };
         from = to;
@@ -50,12 +50,12 @@ pub fn renew<T: Copy>(guides: &mut Vec<Reach>, parts: &[Part<T>], slot: usize)
     if block < guides.len() {
         let from = slot - slot % WIDTH;
         let to = from.saturating_add(WIDTH).min(parts.len());
-        guides[block] = joined(&parts[from..to]);
+        guides[block] = joined_reach(&parts[from..to]);
     }
 }
 
 /// The next part from one on that is not in a block whose bounds tell that no entry there passes. It may be behind all.
-pub fn next_slot<T: Copy, S: Seek<T>>(
+pub fn next_candidate_slot<T: Copy, S: Seek<T>>(
     guides: &[Reach],
     parts: &[Part<T>],
     seek: &S,

@@ -10,7 +10,7 @@ use crate::reach::Reach;
 use crate::seek::Seek;
 
 /// Whether neither the first nor the last code point descends from one entry to another one.
-fn is_up_to<T: Copy>(entry: &Entry<T>, behind: &Entry<T>) -> bool
+fn are_in_order<T: Copy>(entry: &Entry<T>, behind: &Entry<T>) -> bool
     ensures { result ≡ true → IsUpTo entry.now behind.now }
 {
     entry.code <= behind.code && entry.last <= behind.last
@@ -21,7 +21,7 @@ pub fn is_ordered<T: Copy>(entries: &[Entry<T>]) -> bool
     ensures { result ≡ true → IsOrdered entries.now }
 {
     'entries: for at in 1..entries.len() {
-        if !is_up_to(&entries[at - 1], &entries[at]) {
+        if !are_in_order(&entries[at - 1], &entries[at]) {
             return false;
         }
     }
@@ -43,7 +43,7 @@ pub fn stays_ordered_with<T: Copy>(entries: &[Entry<T>], entry: &Entry<T>) -> bo
     ensures { result ≡ true → IsOrdered entries.now → IsOrdered (entries.now ++ entry.now ∷ []) }
 {
     let len = entries.len();
-    len == 0 || is_up_to(&entries[len - 1], entry)
+    len == 0 || are_in_order(&entries[len - 1], entry)
 }
 
 /// Bounds of the entries in order from one place up to another one. The reach bounds the tags of all.

@@ -71,7 +71,7 @@ impl<T: Copy> Part<T> {
     }
 
     /// The part that has no entries now, and these next. It takes no memory.
-    pub fn added(alloc: Global, entries: ListOf<Entry<T>>) -> Part<T>
+    pub fn with_next_only(alloc: Global, entries: ListOf<Entry<T>>) -> Part<T>
         ensures { result ≡ record { now = []; next = entries; edited = true } }
     {
         let reach = Reach::NONE.with_all(entries.as_slice());

@@ -5,10 +5,10 @@ ghost use Rattle.std.specs.List.{insert, remove};
 ghost use Rattle.part_list.specs.Parts.{IsEntry, IsGap, now_in, next_in, part_at, place, spliced};
 ghost use Rattle.part_list.specs.Puts.{put_entries};
 
-use crate::change::{commit_all, discard_all, tidy};
+use crate::change::{commit_all, discard_all, drop_empty_if_shrunk};
 use crate::copy::copied_parts;
 use crate::entry::Entry;
-use crate::fill::{begin, edit, push};
+use crate::fill::{edit, push, put_first_entry};
 use crate::guides::{renew, renew_all};
 use crate::hints::Hints;
 use crate::part::Part;
@@ -101,7 +101,7 @@ impl<T: Copy> PartList<T> {
             self.edited = true;
             self.guides.clear();
             self.hints = Hints::unknown();
-            return begin(self.alloc, &mut self.parts, entry);
+            return put_first_entry(self.alloc, &mut self.parts, entry);
         };
         let at = self.parts[slot].next().len();
         self.edit(Spot { slot, at }, 0, Put::one(entry))
@@ -205,7 +205,7 @@ impl<T: Copy> PartList<T> {
             return;
         }
         commit_all(&mut self.parts);
-        tidy(&mut self.parts, &mut self.guides, self.shrunk);
+        drop_empty_if_shrunk(&mut self.parts, &mut self.guides, self.shrunk);
         self.edited = false;
         self.shrunk = false;
     }
@@ -220,7 +220,7 @@ impl<T: Copy> PartList<T> {
         }
         self.guides.clear();
         discard_all(&mut self.parts);
-        tidy(&mut self.parts, &mut self.guides, true);
+        drop_empty_if_shrunk(&mut self.parts, &mut self.guides, true);
         self.edited = false;
         self.shrunk = false;
     }

@@ -8,7 +8,7 @@ ghost use Rattle.part_list.specs.PartValues.{parts_next};
 
 use crate::entry::Entry;
 use crate::find::first_in;
-use crate::guides::next_slot;
+use crate::guides::next_candidate_slot;
 use crate::part::Part;
 use crate::reach::Reach;
 use crate::seek::Seek;
@@ -84,7 +84,7 @@ impl<'a, T: Copy, S: Seek<T>> Iterator for Passing<'a, T, S> {
                 self.entries = entries_after(self.entries, at);
                 return Some(entry);
             }
-            let slot = next_slot(self.guides, self.parts, self.seek, self.slot);
+            let slot = next_candidate_slot(self.guides, self.parts, self.seek, self.slot);
             if slot >= self.parts.len() {
                 return None;
             }

@@ -9,7 +9,7 @@ ghost use Rattle.part_list.specs.PartValues.{parts_next};
 
 use crate::entry::Entry;
 use crate::find::first_in;
-use crate::guides::next_slot;
+use crate::guides::next_candidate_slot;
 use crate::part::Part;
 use crate::reach::Reach;
 use crate::seek::Seek;
@@ -28,12 +28,12 @@ pub fn first_spot<T: Copy, S: Seek<T>>(
         ≡ length (flat (take from (parts_next parts.now))) }
     ensures { FirstAt result (S.passing seek.now) (parts_next parts.now) }
 {
-    let mut slot = next_slot(guides, parts, seek, from);
+    let mut slot = next_candidate_slot(guides, parts, seek, from);
     'parts: while slot < parts.len() {
         if let Some(at) = parts[slot].first(seek) {
             return Some(Spot { slot, at });
         }
-        slot = next_slot(guides, parts, seek, slot + 1);
+        slot = next_candidate_slot(guides, parts, seek, slot + 1);
     }
     None
 }

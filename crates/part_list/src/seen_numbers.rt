@@ -33,7 +33,7 @@ pub struct SeenNumbers {
 }
 
 /// How many entries parts have next.
-pub fn entry_count<T: Copy>(parts: &[Part<T>]) -> usize {
+pub fn next_entry_count<T: Copy>(parts: &[Part<T>]) -> usize {
     let mut count: usize = 0;
     'parts: for part in parts {
         count = count.saturating_add(part.next().len());
@@ -155,7 +155,7 @@ impl SeenNumbers {
     {
         let mut tags = SeenNumbers {
             seen: Some(BTreeSet::new(alloc)),
-            left: (entry_count(parts) / 2).saturating_add(FEW),
+            left: (next_entry_count(parts) / 2).saturating_add(FEW),
         };
         'parts: for part in parts {
             tags.put_part(part);

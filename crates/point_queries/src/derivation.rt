@@ -10,11 +10,11 @@ ghost use Rattle.query_laws.specs.Turns.{SameQueries};
 ghost use Rattle.point_queries.specs.Compat.{canonical_asks};
 ghost use Rattle.point_queries.specs.Derivation.{DerivesAs, plain_shown, composite_shown, foldings_put, other_asks};
 
-use crate::forms::put_asks;
+use crate::forms::put_form_asks;
 use crate::query_list::query_set;
 use crate::rounds::put_rounds;
 use crate::rows::put_members;
-use crate::trees::has_compat;
+use crate::trees::has_compat_in_tree;
 use identifier_closure::derive_record;
 use std::alloc::Global;
 use std::sync::ledger::Ledger;
@@ -110,7 +110,7 @@ fn put_derivation_asks<W: FactView>(
 {
     put_members(c, facts, asked)?;
     put_composite(view, facts, asked)?;
-    put_canonical(alloc, view, c, asked)?;
+    put_form_c_asks(alloc, view, c, asked)?;
     put_foldings(alloc, view, c, asked)?;
     Ok(())
 }
@@ -134,7 +134,7 @@ fn put_foldings<W: FactView>(
 
 /// Appends what Normalisation Form C of a code point asks, if a compatibility mapping is below it; if none is, Form KC
 /// asks the same. UAX #15, section 1.2.
-fn put_canonical<W: FactView>(
+fn put_form_c_asks<W: FactView>(
     alloc: Global,
     view: &W,
     c: Point,
@@ -143,8 +143,8 @@ fn put_canonical<W: FactView>(
     ensures { OnOk result (asked.new.items ≡ asked.old.items
         ++ canonical_asks (W.facts_of view.now) c) }
 {
-    if has_compat(view, c) {
-        put_asks(alloc, view, false, &[c], asked)?;
+    if has_compat_in_tree(view, c) {
+        put_form_asks(alloc, view, false, &[c], asked)?;
     }
     Ok(())
 }

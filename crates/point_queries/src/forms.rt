@@ -10,7 +10,7 @@ ghost use Rattle.point_queries.specs.Forms.{list_in, composing_at, composed_at};
 
 use crate::rows::put_rows;
 use crate::trees::put_trees;
-use crate::tries::put_tries;
+use crate::tries::put_tried_pairs;
 use normalisation::{compose, nfd, nfkd};
 use std::alloc::Global;
 use ucd_model::{FactView, FormStop, Memory, Point, Points, Query};
@@ -19,7 +19,7 @@ use ucd_model::{FactView, FormStop, Memory, Point, Points, Query};
 /// or `None` if it has none. UAX #15, section 1.2.
 ///
 /// - `Memory`: memory ran out.
-pub fn put_asks<W: FactView>(
+pub fn put_form_asks<W: FactView>(
     alloc: Global,
     view: &W,
     compat: bool,
@@ -34,12 +34,12 @@ pub fn put_asks<W: FactView>(
 {
     put_trees(view, compat, points, asked)?;
     let form = decomposed(alloc, view, compat, points)?;
-    let form = put_form(view, form, asked)?;
+    let form = put_composing_if_any(view, form, asked)?;
     Ok(form)
 }
 
 /// Appends what the composition of a decomposed list asks, if there is such a list, and answers the list composed.
-fn put_form<W: FactView>(
+fn put_composing_if_any<W: FactView>(
     view: &W,
     form: Option<Points>,
     asked: &mut Vec<Query>,
@@ -71,7 +71,7 @@ fn put_composing<W: FactView>(
     ensures form { IfOk result (λ found. found
         ≡ compose (class_of (W.facts_of view.now)) (pair_of (W.facts_of view.now)) form) }
 {
-    put_tries(view, form.as_slice(), asked)?;
+    put_tried_pairs(view, form.as_slice(), asked)?;
     compose(view, &mut form);
     put_rows(form.as_slice(), asked)?;
     Ok(form)

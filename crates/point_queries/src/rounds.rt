@@ -8,10 +8,10 @@ ghost use Rattle.point_queries.specs.Forms.{list_in};
 ghost use Rattle.point_queries.specs.Rounds.{again_puts, folding_puts, short_round};
 ghost use Rattle.point_queries.specs.KnownForms.{after_at, after_form, after_round, alike_in, known_puts, puts_from};
 
-use crate::forms::put_asks;
+use crate::forms::put_form_asks;
 use crate::rows::put_rows;
 use case_derivation::folded;
-use fold_rounds::{LISTS, MOST_POINTS, are_alike, drop_ignorable};
+use fold_rounds::{LISTS, MOST_POINTS, all_fold_alike, drop_ignorable};
 use std::alloc::Global;
 use ucd_model::{FactView, Folding, Memory, Point, Points, Query, same_points};
 
@@ -36,7 +36,7 @@ pub struct Round {
 impl Round {
     /// This round, as it stands behind others. Both foldings are known to give and to ask the same only if that was known of
     /// it, and `alike` says so of the others too.
-    fn behind(self, alike: bool) -> Round
+    fn alike_only_if(self, alike: bool) -> Round
         ensures after { result.after ≡ self.after }
         ensures alike { result.alike ≡ (alike && self.alike) }
     {
@@ -67,7 +67,9 @@ pub fn put_rounds<W: FactView>(
     let mut known = false;
     let mut alike = true;
     'rounds: for done in 0..LISTS {
-        let round = put_round(alloc, view, folding, list.as_slice(), known, asked)?.behind(alike);
+        let round = put_round(alloc, view, folding, list.as_slice(), known, asked)?.alike_only_if(
+            alike,
+        );
         alike = round.alike;
         match round.after {
             Some(after) => {
@@ -99,10 +101,10 @@ fn put_round<W: FactView>(
         ≡ alike_in (W.facts_of view.now) (list_in (nfkc (W.facts_of view.now) s.now))) }
 {
     if known {
-        return put_folding(alloc, view, folding, s, s, asked);
+        return put_round_from_form(alloc, view, folding, s, s, asked);
     }
-    match put_asks(alloc, view, true, s, asked)? {
-        Some(form) => put_folding(alloc, view, folding, s, form.as_slice(), asked),
+    match put_form_asks(alloc, view, true, s, asked)? {
+        Some(form) => put_round_from_form(alloc, view, folding, s, form.as_slice(), asked),
         None => Ok(Round {
             after: None,
             alike: true,
@@ -112,7 +114,7 @@ fn put_round<W: FactView>(
 
 /// Appends what a round from a list asks, from the Normalisation Form KC of the list on, and answers what the round
 /// gives.
-fn put_folding<W: FactView>(
+fn put_round_from_form<W: FactView>(
     alloc: Global,
     view: &W,
     folding: Folding,
@@ -127,7 +129,7 @@ fn put_folding<W: FactView>(
         ≡ after_form folding (W.facts_of view.now) s.now (Some form.now)) }
     ensures alike { IfOk result (λ round. round.alike ≡ are_alike (W.facts_of view.now) form.now) }
 {
-    let alike = are_alike(view, form);
+    let alike = all_fold_alike(view, form);
     let mut kept = folded(alloc, view, folding, form)?;
     put_rows(kept.as_slice(), asked)?;
     drop_ignorable(view, &mut kept);
@@ -158,7 +160,7 @@ fn put_asks_of_form<W: FactView>(
         again.append(form)?;
         return Ok(Some(again));
     }
-    let found = put_asks(alloc, view, true, kept, asked)?;
+    let found = put_form_asks(alloc, view, true, kept, asked)?;
     Ok(found)
 }
 

@@ -70,7 +70,7 @@ fn put_tree<W: FactView>(
 }
 
 /// Whether a code point that the expansions of this one look at has a compatibility mapping. UAX #15, section 1.3.
-pub fn has_compat<W: FactView>(view: &W, c: Point) -> bool
+pub fn has_compat_in_tree<W: FactView>(view: &W, c: Point) -> bool
     ensures { result ≡ has_compat (W.facts_of view.now) 8 c }
 {
     has_compat_within(view, LEVELS, c)

@@ -13,7 +13,7 @@ use ucd_model::{FactView, Memory, Point, Query};
 /// one pair for each code point. The Unicode Standard, section 3.11, D117.
 ///
 /// - `Memory`: memory ran out.
-pub fn put_tries<W: FactView>(
+pub fn put_tried_pairs<W: FactView>(
     view: &W,
     points: &[Point],
     asked: &mut Vec<Query>,
@@ -43,7 +43,7 @@ fn put_tried_pair<W: FactView>(
         (pair_of (W.facts_of view.now)) starter.now y) }
 {
     let class = view.class(y);
-    let Some(point) = reached_point(starter, class) else {
+    let Some(point) = unblocked_starter(starter, class) else {
         return Ok(starter_behind(y, starter, class));
     };
     asked.push(Query::Pair(point, y))?;
@@ -54,7 +54,7 @@ fn put_tried_pair<W: FactView>(
 }
 
 /// The last starter's code point, if one of this class is not blocked from it.
-fn reached_point(starter: &Option<Starter<Point>>, class: u8) -> Option<Point>
+fn unblocked_starter(starter: &Option<Starter<Point>>, class: u8) -> Option<Point>
     ensures { result ≡ reached_point starter.now class }
 {
     match starter {

@@ -105,7 +105,7 @@ impl<T: Table<u64>, V: Drop> SlotStore<T, V> {
     pub fn count(&self) -> usize
         ensures { result ≡ held_count self.now }
     {
-        self.slots.held_behind()
+        self.slots.held_behind_first()
     }
 }
 
@@ -154,10 +154,10 @@ impl<T: Stretches<u64>, V: Drop> SlotStore<T, V> {
         ensures next { SameValues (⟦<SlotStore<T, V> as Store<V>>⟧.next self.new)
             (⟦<SlotStore<T, V> as Store<V>>⟧.next self.old) }
     {
-        if self.slots.are_few() {
+        if self.slots.is_below_sweep_threshold() {
             return;
         }
-        if let Ok(mut all) = self.slots.all_unused() {
+        if let Ok(mut all) = self.slots.all_marked_unused() {
             let unused = all.as_mut_slice();
             mark_used_now(&self.places, unused);
             mark_used_next(&self.places, unused);

@@ -84,7 +84,7 @@ impl<V: Drop> Slots<V> {
             → held_at self.new p ≡ held_at self.old p }
         ensures place { IfOk result (λ place. held_at self.new place ≡ Some value) }
     {
-        match free_place(&self.more, &mut self.free) {
+        match take_free_place(&self.more, &mut self.free) {
             Some(at) => {
                 self.more[at] = Some(value);
                 Ok(at as u64 + 1)
@@ -97,14 +97,14 @@ impl<V: Drop> Slots<V> {
     }
 
     /// Whether few values are held: fewer than twice those that the last call of `drop_unused` left, and some more.
-    pub fn are_few(&self) -> bool {
+    pub fn is_below_sweep_threshold(&self) -> bool {
         self.count() < self.few
     }
 
     /// A list that says of each place that it is unused.
     ///
     /// - `Memory`: memory ran out.
-    pub fn all_unused(&self) -> Result<Vec<bool>, Memory> {
+    pub fn all_marked_unused(&self) -> Result<Vec<bool>, Memory> {
         let unused = Vec::from_elem(self.alloc, true, self.more.len().saturating_add(1))?;
         Ok(unused)
     }
@@ -140,7 +140,7 @@ impl<V: Drop> Slots<V> {
     }
 
     /// How many values are held behind the first.
-    pub fn held_behind(&self) -> usize
+    pub fn held_behind_first(&self) -> usize
         ensures { result ≡ held_behind self.now }
     {
         self.more.iter().filter(|value| value.is_some()).count()
@@ -153,7 +153,7 @@ impl<V: Drop> Slots<V> {
 }
 
 /// A place where no value is held, taken off the free ones.
-fn free_place<V: Drop>(more: &[Option<V>], free: &mut Vec<usize>) -> Option<usize>
+fn take_free_place<V: Drop>(more: &[Option<V>], free: &mut Vec<usize>) -> Option<usize>
     ensures { IfSome result (λ at. slice_get more.now at ≡ Some None) }
 {
     let at = free.pop()?;

@@ -86,7 +86,7 @@ impl Aliases {
         ensures aliases { OnOk result (AreAliasesOf self.new (sources_of release.now)) }
         ensures numbers { OnOk result (AreNumbersOf self.new.numbers (rows_now release.now)) }
     {
-        let same = self.numbers.renew(alloc, release, edited)?;
+        let same = self.numbers.renew_and_compare(alloc, release, edited)?;
         if same && !edited.aliases {
             return Ok(());
         }
@@ -102,40 +102,40 @@ impl Aliases {
     }
 
     /// The property that a name names as it is.
-    fn property_as_is(&self, name: &[u8]) -> Option<Property>
+    fn property_by_whole_name(&self, name: &[u8]) -> Option<Property>
         ensures { result ≡ property_key_in self.now (loose name.now) }
     {
         Some(property_by(index_in(&self.places.properties, name)?))
     }
 
     /// The test that a name means as a value of a property, as it is.
-    fn value_as_is(&self, property: Property, name: &[u8]) -> Option<Test>
+    fn value_by_whole_name(&self, property: Property, name: &[u8]) -> Option<Test>
         ensures { result ≡ value_key_in self.now property (loose name.now) }
     {
         test_at(property, self.places.values.find(property, name)?)
     }
 
     /// The test that a name means alone, as it is.
-    fn lone_as_is(&self, name: &[u8]) -> Option<Test>
+    fn lone_by_whole_name(&self, name: &[u8]) -> Option<Test>
         ensures { result ≡ lone_key_in self.now (loose name.now) }
     {
-        if let Some(test) = self.value_as_is(Property::Category, name) {
+        if let Some(test) = self.value_by_whole_name(Property::Category, name) {
             return Some(test);
         }
-        if let Some(test) = self.value_as_is(Property::Script, name) {
+        if let Some(test) = self.value_by_whole_name(Property::Script, name) {
             return Some(test);
         }
-        match self.binary_as_is(name) {
+        match self.binary_by_whole_name(name) {
             Some(test) => Some(test),
             None => any_ascii_or_assigned(name),
         }
     }
 
     /// The test for code points that have the property that a name names as it is.
-    fn binary_as_is(&self, name: &[u8]) -> Option<Test>
+    fn binary_by_whole_name(&self, name: &[u8]) -> Option<Test>
         ensures { result ≡ binary (property_key_in self.now (loose name.now)) }
     {
-        binary(self.property_as_is(name)?)
+        binary(self.property_by_whole_name(name)?)
     }
 
     /// The property that a name names, by loose matching; `None` if it names none. If the name as it is names none,
@@ -143,10 +143,10 @@ impl Aliases {
     pub fn property(&self, name: &[u8]) -> Option<Property>
         ensures { result ≡ property_in self.now name.now }
     {
-        if let Some(property) = self.property_as_is(name) {
+        if let Some(property) = self.property_by_whole_name(name) {
             return Some(property);
         }
-        self.property_as_is(without_is(name)?)
+        self.property_by_whole_name(without_is(name)?)
     }
 
     /// The test that a name means as a value of a property, by loose matching; `None` if it names no value of it. If
@@ -154,10 +154,10 @@ impl Aliases {
     pub fn value(&self, property: Property, name: &[u8]) -> Option<Test>
         ensures { result ≡ value_in self.now property name.now }
     {
-        if let Some(test) = self.value_as_is(property, name) {
+        if let Some(test) = self.value_by_whole_name(property, name) {
             return Some(test);
         }
-        self.value_as_is(property, without_is(name)?)
+        self.value_by_whole_name(property, without_is(name)?)
     }
 
     /// The test that a name means if it stands alone: a General_Category or a group of them, else a Script, else a
@@ -166,10 +166,10 @@ impl Aliases {
     pub fn lone(&self, name: &[u8]) -> Option<Test>
         ensures { result ≡ lone_in self.now name.now }
     {
-        if let Some(test) = self.lone_as_is(name) {
+        if let Some(test) = self.lone_by_whole_name(name) {
             return Some(test);
         }
-        self.lone_as_is(without_is(name)?)
+        self.lone_by_whole_name(without_is(name)?)
     }
 
     /// The name in PropList.txt of the listed property with this number; `None` if the number is not used.

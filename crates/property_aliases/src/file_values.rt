@@ -56,7 +56,7 @@ impl FileValues {
 }
 
 /// Whether a value has this number.
-fn is_number(names: &IndexSet<Vec<u8>>, number: usize, value: &[u8]) -> bool
+fn has_number(names: &IndexSet<Vec<u8>>, number: usize, value: &[u8]) -> bool
     ensures { IsTrue result → slice_get (names_in names.now) number ≡ Some value.now }
 {
     match names.get_index(number) {
@@ -81,7 +81,7 @@ fn number_of(alloc: Global, names: &mut IndexSet<Vec<u8>>, value: &[u8]) -> Resu
 /// stand together.
 ///
 /// - `Memory`: memory ran out.
-fn number_behind(
+fn number_trying_last(
     alloc: Global,
     names: &mut IndexSet<Vec<u8>>,
     last: usize,
@@ -91,7 +91,7 @@ fn number_behind(
     ensures number { IfOk result (λ number. slice_get (names_in names.new) number
         ≡ Some value.now) }
 {
-    if is_number(names, last, value) {
+    if has_number(names, last, value) {
         return Ok(last);
     }
     number_of(alloc, names, value)
@@ -121,7 +121,7 @@ fn put_row(
         → AreNumbered (names_in names.new) rows.new.items
         (above ++ record { span = span; value = value.now } ∷ [])) }
 {
-    let number = number_behind(alloc, names, last_number(rows.as_slice()), value)?;
+    let number = number_trying_last(alloc, names, last_number(rows.as_slice()), value)?;
     rows.push(NumberedRow { number, span })?;
     Ok(())
 }
@@ -150,7 +150,7 @@ fn add_row(
     if let Some(text) = row.value() {
         return put_row(alloc, names, rows, text.span, text.value);
     }
-    if let Some(text) = row.missing() {
+    if let Some(text) = row.missing_row_value() {
         return put_row(alloc, names, missing, text.span, text.value);
     }
     Ok(())

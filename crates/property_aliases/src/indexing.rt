@@ -51,7 +51,7 @@ fn built_in() -> &'static [Property]
 }
 
 /// Which property the name at a place is of.
-fn index_at(place: usize) -> usize
+fn property_index_at(place: usize) -> usize
     ensures { result ≡ index_at place }
 {
     if place < 60 { place / 2 } else { place - 30 }
@@ -62,7 +62,7 @@ pub(crate) fn index_in(properties: &Names, name: &[u8]) -> Option<usize>
     ensures { result ≡ index_in_names properties.now (loose name.now) }
 {
     let place = find_in(&properties.direct, &properties.rows, name)?;
-    Some(index_at(place))
+    Some(property_index_at(place))
 }
 
 /// The property with this index.

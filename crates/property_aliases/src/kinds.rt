@@ -19,7 +19,7 @@ use ucd_facts::{ListOf, Memory, Texts};
 const KINDS: usize = 7;
 
 /// The kind of a property's values.
-pub(crate) fn kind_of(property: Property) -> usize
+pub(crate) fn names_kind_of(property: Property) -> usize
     ensures kind { result ≡ kind_of property }
     ensures below { result < 7 }
 {
@@ -85,7 +85,7 @@ fn kind_names(
 /// The place of each name of the values of each kind.
 ///
 /// - `Memory`: memory ran out.
-pub(crate) fn kinds_of(
+pub(crate) fn places_by_kind(
     alloc: Global,
     scripts: &[Vec<u8>],
     breaks: &[Vec<u8>],

@@ -37,7 +37,7 @@ pub(crate) fn lesser_number(first: Option<usize>, second: Option<usize>) -> Opti
 }
 
 /// The least place to which a name of a row leads.
-fn row_number(direct: &NumberMap, row: &[Text]) -> Option<usize>
+fn least_place_of_row(direct: &NumberMap, row: &[Text]) -> Option<usize>
     ensures { result ≡ row_number (number_in direct.now) row.now }
 {
     let mut number = None;
@@ -74,7 +74,7 @@ pub(crate) fn add_row(
         ≡ least (number_in rows.old key)
         (put row.now key (row_number (number_in direct.now) row.now))) }
 {
-    match row_number(direct, row) {
+    match least_place_of_row(direct, row) {
         Some(number) => put_row(alloc, rows, number, row),
         None => Ok(()),
     }
@@ -83,7 +83,7 @@ pub(crate) fn add_row(
 /// The least place to which the rows tie each of their names.
 ///
 /// - `Memory`: memory ran out.
-pub(crate) fn rows_of(
+pub(crate) fn places_by_rows(
     alloc: Global,
     direct: &NumberMap,
     rows: &[Texts],
@@ -114,7 +114,7 @@ impl Names {
             → found_in found.direct found.rows key ≡ number_of names.now rows.now key) }
     {
         let direct = places_of_table(alloc, names)?;
-        let rows = rows_of(alloc, &direct, rows)?;
+        let rows = places_by_rows(alloc, &direct, rows)?;
         Ok(Names { direct, rows })
     }
 }

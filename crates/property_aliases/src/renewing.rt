@@ -47,7 +47,7 @@ fn are_same(first: &[Vec<u8>], second: &[Vec<u8>]) -> bool
 /// names that they had.
 ///
 /// - `Memory`: memory ran out. They stay.
-pub(crate) fn renew_values(
+pub(crate) fn renew_values_and_compare(
     alloc: Global,
     release: &Release,
     file: SourceFile,
@@ -66,14 +66,14 @@ pub(crate) fn renew_values(
         return Ok(true);
     }
     let values = values_of(alloc, release, file)?;
-    Ok(put_values(kept, values))
+    Ok(replace_values_and_compare(kept, values))
 }
 
 /// Makes the values of a file those of its rows now, numbered behind a default, unless it was not edited. It answers whether
 /// they have the names that they had.
 ///
 /// - `Memory`: memory ran out. They stay.
-pub(crate) fn renew_behind_default(
+pub(crate) fn renew_defaulted_and_compare(
     alloc: Global,
     default: &[u8],
     release: &Release,
@@ -93,11 +93,11 @@ pub(crate) fn renew_behind_default(
         return Ok(true);
     }
     let values = values_behind_default(alloc, default, release, file)?;
-    Ok(put_values(kept, values))
+    Ok(replace_values_and_compare(kept, values))
 }
 
 /// Puts values in the place of those that were kept, and answers whether they have the same names.
-fn put_values(kept: &mut FileValues, values: FileValues) -> bool
+fn replace_values_and_compare(kept: &mut FileValues, values: FileValues) -> bool
     ensures put { kept.new ≡ values }
     ensures same { IsTrue result → names_in kept.new.names ≡ names_in kept.old.names }
 {

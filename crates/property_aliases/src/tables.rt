@@ -166,7 +166,7 @@ pub(crate) fn push_name(alloc: Global, texts: &mut Texts, name: &[u8]) -> Result
 /// Puts copies of numbered names at the end.
 ///
 /// - `Memory`: memory ran out.
-fn push_keys(alloc: Global, texts: &mut Texts, keys: &[Vec<u8>]) -> Result<(), Memory>
+fn push_numbered_names(alloc: Global, texts: &mut Texts, keys: &[Vec<u8>]) -> Result<(), Memory>
     ensures { OnOk result (texts.new ≡ texts.old ++ map (λ k. k.items) keys.now) }
 {
     'keys: for key in keys {
@@ -184,6 +184,6 @@ pub(crate) fn table_of(alloc: Global, built_in: &[&[u8]], keys: &[Vec<u8>]) -> R
 {
     let mut texts = ListOf::new(alloc);
     push_names(alloc, &mut texts, built_in)?;
-    push_keys(alloc, &mut texts, keys)?;
+    push_numbered_names(alloc, &mut texts, keys)?;
     Ok(texts)
 }

@@ -9,7 +9,7 @@ ghost use Rattle.release_rows.specs.Releases.{rows_now};
 
 use crate::edited::Edited;
 use crate::file_values::{FileValues, values_behind_default, values_of};
-use crate::renewing::{renew_behind_default, renew_values};
+use crate::renewing::{renew_defaulted_and_compare, renew_values_and_compare};
 use release_rows::Release;
 use std::alloc::Global;
 use ucd_facts::{Memory, SourceFile};
@@ -63,7 +63,7 @@ impl ValueNumbers {
     /// whether they have the names that they had, by the same numbers. Only the rows of edited files are read.
     ///
     /// - `Memory`: memory ran out. Some of the values may be those of the rows now.
-    pub(crate) fn renew(
+    pub(crate) fn renew_and_compare(
         &mut self,
         alloc: Global,
         release: &Release,
@@ -74,14 +74,14 @@ impl ValueNumbers {
             → AreNumbersOf self.new (rows_now release.now)) }
         ensures same { IfOk result (λ same. IsTrue same → HasSameNames self.new self.old) }
     {
-        let listed = renew_values(
+        let listed = renew_values_and_compare(
             alloc,
             release,
             SourceFile::PropList,
             edited.listed,
             &mut self.listed,
         )?;
-        let scripts = renew_behind_default(
+        let scripts = renew_defaulted_and_compare(
             alloc,
             default_script(),
             release,
@@ -89,7 +89,7 @@ impl ValueNumbers {
             edited.scripts,
             &mut self.scripts,
         )?;
-        let breaks = renew_behind_default(
+        let breaks = renew_defaulted_and_compare(
             alloc,
             default_word_break(),
             release,
@@ -115,7 +115,7 @@ impl ValueNumbers {
     }
 
     /// The word breaks.
-    pub fn breaks(&self) -> &FileValues
+    pub fn word_breaks(&self) -> &FileValues
         ensures { result.now ≡ self.now.breaks }
     {
         &self.breaks

@@ -12,7 +12,7 @@ ghost use Rattle.release_rows.specs.Releases.{rows_now};
 ghost use Rattle.ucd_points.specs.declared.files.SourceFile.TheVariants.{PropertyValueAliases};
 
 use crate::indexing::{index_in, property_by};
-use crate::kinds::kind_of;
+use crate::kinds::names_kind_of;
 use crate::naming::{Names, add_row};
 use crate::number_map::NumberMap;
 use release_rows::{Release, RowText, Rows};
@@ -56,7 +56,7 @@ fn make_maps_up_to(alloc: Global, maps: &mut Vec<NumberMap>, index: usize) -> Re
 /// Gives the names of a row the least place to which one of them leads, in the map of a property.
 ///
 /// - `Memory`: memory ran out.
-fn add_at(
+fn add_row_to_map(
     alloc: Global,
     kinds: &[NumberMap],
     maps: &mut Vec<NumberMap>,
@@ -71,7 +71,7 @@ fn add_at(
         (if nat_eq index i then row.now ∷ [] else []) key)) }
 {
     make_maps_up_to(alloc, maps, index)?;
-    let direct = &kinds[kind_of(property_by(index))];
+    let direct = &kinds[names_kind_of(property_by(index))];
     add_row(alloc, direct, &mut maps[index], row)
 }
 
@@ -94,7 +94,7 @@ fn add_value_row(
         (behind (index_in_names properties.now) i row.now) key)) }
 {
     match first_index(properties, row) {
-        Some(index) => add_at(alloc, kinds, maps, index, names_behind_first(row)),
+        Some(index) => add_row_to_map(alloc, kinds, maps, index, names_behind_first(row)),
         None => Ok(()),
     }
 }
@@ -174,7 +174,7 @@ fn numbers_of(
 /// each of their later names. A row is let go of before the next one is read.
 ///
 /// - `Memory`: memory ran out.
-pub(crate) fn rows_by_property(
+pub(crate) fn places_by_property(
     alloc: Global,
     release: &Release,
     properties: &Names,

@@ -14,12 +14,12 @@ ghost use Rattle.property_aliases.specs.declared.property.Property.{Property};
 ghost use Rattle.release_rows.specs.Releases.{rows_now};
 ghost use Rattle.ucd_points.specs.declared.files.SourceFile.TheVariants.{PropertyValueAliases};
 
-use crate::kinds::{kind_of, kinds_of};
+use crate::kinds::{names_kind_of, places_by_kind};
 use crate::naming::{Names, lesser_number};
 use crate::number_map::NumberMap;
 use crate::property::Property;
 use crate::value_numbers::ValueNumbers;
-use crate::value_rows::rows_by_property;
+use crate::value_rows::places_by_property;
 use release_rows::Release;
 use std::alloc::Global;
 use ucd_facts::{Form, Memory};
@@ -49,12 +49,12 @@ impl ValueNames {
             (flat_map (behind (index_in_names properties.now) (index_of p))
             (alias_rows (rows_now release.now PropertyValueAliases))) key) }
     {
-        let kinds = kinds_of(
+        let kinds = places_by_kind(
             alloc,
             numbers.scripts.names.as_slice(),
             numbers.breaks.names.as_slice(),
         )?;
-        let rows = rows_by_property(alloc, release, properties, kinds.as_slice())?;
+        let rows = places_by_property(alloc, release, properties, kinds.as_slice())?;
         Ok(ValueNames { kinds, rows })
     }
 
@@ -62,7 +62,7 @@ impl ValueNames {
     pub(crate) fn find(&self, property: Property, name: &[u8]) -> Option<usize>
         ensures { result ≡ place_in self.now property (loose name.now) }
     {
-        let direct = number_at(self.kinds.as_slice(), kind_of(property), name);
+        let direct = number_at(self.kinds.as_slice(), names_kind_of(property), name);
         lesser_number(direct, self.find_in_rows(property, name))
     }
 

@@ -1,7 +1,7 @@
 -- The laws of the quick checks. UAX #15, section 9.
 -- IsMapped F c      where c has a mapping of some kind, that has a member; in a release it always has
 -- IsUnchanged F c   each of the four forms of c alone is c alone
--- KindsTell         the kind tells the quick checks of NFD and NFKD, whatever the form is
+-- KindsTellQuickChecks         the kind tells the quick checks of NFD and NFKD, whatever the form is
 -- UnchangedIsYes    a point that no form changes, and that is no second member, has Yes in each quick check
 -- NoIsOther         No means that the form of the point is another list
 -- OthersAreSame     another value means that it is the point alone
@@ -21,8 +21,8 @@ IsMapped F c = is_plain (F c).kind ≡ false → (F c).mapping ≢ []
 abbrev pub IsUnchanged : (ℕ → Facts) → ℕ → Type 0
 IsUnchanged F c = (form : Form) → form_of F form (c ∷ []) ≡ Ok (c ∷ [])
 
-abbrev pub KindsTell : Type 0
-KindsTell = (F : ℕ → Facts) (c : ℕ) (s : List ℕ) → (quick_given F Nfd c s ≡ quick_decomposed (F c).kind false) × (quick_given F Nfkd c s ≡ quick_decomposed (F c).kind true)
+abbrev pub KindsTellQuickChecks : Type 0
+KindsTellQuickChecks = (F : ℕ → Facts) (c : ℕ) (s : List ℕ) → (quick_given F Nfd c s ≡ quick_decomposed (F c).kind false) × (quick_given F Nfkd c s ≡ quick_decomposed (F c).kind true)
 
 abbrev pub UnchangedIsYes : Type 0
 UnchangedIsYes = (F : ℕ → Facts) (c : ℕ) → IsMapped F c → IsUnchanged F c → second_of F c ≡ false → (form : Form) → quick F form c ≡ Ok Yes

@@ -24,7 +24,7 @@ use Rattle.ucd_facts.specs.declared.form.Quick.TheVariants.{Yes, No, Maybe}
 use Rattle.normalisation.specs.FormLemmas.{expansion_alone}
 use Rattle.normalisation.specs.ExpandedLemmas.{Unmapped, Each-order, expansions_full}
 use Rattle.quick_checks.specs.Checks.{quick_decomposed, decomposed_check, composed_check}
-use Rattle.quick_checks.specs.CheckLaws.{IsMapped, KindsTell, UnchangedIsYes, NoIsOther, OthersAreSame}
+use Rattle.quick_checks.specs.CheckLaws.{IsMapped, KindsTellQuickChecks, UnchangedIsYes, NoIsOther, OthersAreSame}
 use Rattle.normalisation.specs.FormProofs.{in_order_ok}
 
 -- ---- a point without a mapping that counts is each form of itself
@@ -54,7 +54,7 @@ yes_if_plain : (kind : Kind) → cond (is_plain kind) Yes No ≡ quick_decompose
 yes_if_plain Plain = refl
 yes_if_plain _ = refl
 
-pub kinds_tell : KindsTell
+pub kinds_tell : KindsTellQuickChecks
 kinds_tell F c s = (no_if_canonical (F c).kind, yes_if_plain (F c).kind)
 
 where_same : (f g : List ℕ → Quick) → ((s : List ℕ) → f s ≡ g s) → (r : Result (List ℕ) Rule) → quick_where f r ≡ quick_where g r

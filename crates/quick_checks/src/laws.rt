@@ -1,10 +1,10 @@
 //! The laws of the quick checks: each function here does nothing, and its contract is a law. UAX #15, section 9.
 
-ghost use Rattle.quick_checks.specs.CheckLaws.{KindsTell, UnchangedIsYes, NoIsOther, OthersAreSame};
+ghost use Rattle.quick_checks.specs.CheckLaws.{KindsTellQuickChecks, UnchangedIsYes, NoIsOther, OthersAreSame};
 
 /// What the kind of a mapping tells is the quick check of the decomposition, whatever that decomposition is.
-pub fn kinds_tell()
-    ensures { KindsTell }
+pub fn kinds_tell_quick_checks()
+    ensures { KindsTellQuickChecks }
 {}
 
 /// If no mapping is empty, a code point whose four forms are all itself, and that is no second member of a primary

@@ -45,7 +45,7 @@ pub fn splice<V: Copy>(changes: &mut Vec<Change<V>>, edit: &Edit<V>) -> Result<(
     ensures err { OnErr result (changes.new.items ≡ changes.old.items) }
 {
     if edit.behind == changes.len() {
-        return replace_last(changes, edit);
+        return splice_at_end(changes, edit);
     }
     let rest = Vec::from_slice(*changes.allocator(), &changes[edit.behind..])?;
     changes.reserve(2)?;
@@ -59,7 +59,7 @@ pub fn splice<V: Copy>(changes: &mut Vec<Change<V>>, edit: &Edit<V>) -> Result<(
 /// Edits the changes, if no change stays behind the edit. All memory is taken first.
 ///
 /// - `Memory`: memory ran out. The changes stay as they were.
-fn replace_last<V: Copy>(changes: &mut Vec<Change<V>>, edit: &Edit<V>) -> Result<(), Memory>
+fn splice_at_end<V: Copy>(changes: &mut Vec<Change<V>>, edit: &Edit<V>) -> Result<(), Memory>
     requires ordered { edit.now.from ≤ edit.now.behind }
     requires within { edit.now.behind ≡ vec_len changes.old }
     ensures ok { OnOk result (changes.new.items ≡ edited edit.now changes.old.items) }

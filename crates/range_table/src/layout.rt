@@ -89,7 +89,7 @@ impl<V: Copy + Eq> Layout<V> {
         ensures maximal { result.last + 1 < 1114112
             → V.eq (values self.now c) (values self.now (result.last + 1)) ≡ false }
     {
-        let index = self.count_near(c.number() + 1, near);
+        let index = self.count_before_with_hint(c.number() + 1, near);
         let end = self.end_at(c, index);
         Run {
             value: self.value_of_run(index),
@@ -189,20 +189,20 @@ impl<V: Copy + Eq> Layout<V> {
     }
 
     /// How many changes come before `start`. One more than `near` is tried first, and `near` itself.
-    fn count_near(&self, start: u32, near: usize) -> usize
+    fn count_before_with_hint(&self, start: u32, near: usize) -> usize
         ensures { result ≡ count_before start self.now.changes }
     {
-        if near < self.changes.len() && self.is_count(start, near + 1) {
+        if near < self.changes.len() && self.is_count_before(start, near + 1) {
             return near + 1;
         }
-        if self.is_count(start, near) {
+        if self.is_count_before(start, near) {
             return near;
         }
         self.count_before(start)
     }
 
     /// Whether so many changes come before `start`.
-    fn is_count(&self, start: u32, count: usize) -> bool
+    fn is_count_before(&self, start: u32, count: usize) -> bool
         ensures { IsTrue result → count ≡ count_before start self.now.changes }
     {
         let changes = self.changes.as_slice();

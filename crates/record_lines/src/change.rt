@@ -30,7 +30,7 @@ pub fn put_changes(
         ++ change_text point (kept_record before.now) (kept_record after.now)) }
 {
     'files: for file in DerivedFile::all() {
-        put_file(alloc, *file, point, before, after, text)?;
+        put_file_changes(alloc, *file, point, before, after, text)?;
     }
     Ok(())
 }
@@ -38,7 +38,7 @@ pub fn put_changes(
 /// Puts the lines of the properties of a derived file that differ.
 ///
 /// - `Memory`: memory ran out. A part of them may stand at the end of the text then.
-fn put_file(
+fn put_file_changes(
     alloc: Global,
     file: DerivedFile,
     point: Point,
@@ -50,7 +50,7 @@ fn put_file(
         ++ file_changes point (kept_record before.now) (kept_record after.now) file) }
 {
     'listings: for listing in file_listings(file) {
-        put_line(alloc, *listing, point, before, after, text)?;
+        put_property_change(alloc, *listing, point, before, after, text)?;
     }
     Ok(())
 }
@@ -58,7 +58,7 @@ fn put_file(
 /// Puts the line of a property, if it differs.
 ///
 /// - `Memory`: memory ran out. A part of it may stand at the end of the text then.
-fn put_line(
+fn put_property_change(
     alloc: Global,
     listing: Listing,
     point: Point,
@@ -74,7 +74,7 @@ fn put_line(
     if old.as_slice() == new.as_slice() {
         return Ok(());
     }
-    put_name(point, listing, text)?;
+    put_point_and_name(point, listing, text)?;
     put_values(old.as_slice(), new.as_slice(), text)
 }
 
@@ -92,7 +92,7 @@ fn value_of(alloc: Global, listing: Listing, shown: &Record) -> Result<Text, Mem
 /// Puts a code point and the name of a property, each with ` ; ` behind it.
 ///
 /// - `Memory`: memory ran out. A part of them may stand at the end of the text then.
-fn put_name(point: Point, listing: Listing, text: &mut Text) -> Result<(), Memory>
+fn put_point_and_name(point: Point, listing: Listing, text: &mut Text) -> Result<(), Memory>
     ensures { OnOk result (text.new ≡ text.old ++ hex_text point ++ codes " ; "
         ++ (listing_section listing).name ++ codes " ; ") }
 {

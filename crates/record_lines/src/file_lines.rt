@@ -12,7 +12,7 @@ use ucd_model::{Memory, SourceFile, Text};
 /// Puts the line of a row, or the two lines of a range.
 ///
 /// - `Memory`: memory ran out. A part of them may stand at the end of the text then.
-pub fn put_place(
+pub fn put_row_lines(
     alloc: Global,
     file: SourceFile,
     lines: &mut LineFinder<'_>,
@@ -25,7 +25,7 @@ pub fn put_place(
     let number = place.line as usize;
     put_line(alloc, file, lines, number, text)?;
     if place.range {
-        return put_next(alloc, file, lines, number, text);
+        return put_line_after(alloc, file, lines, number, text);
     }
     Ok(())
 }
@@ -33,7 +33,7 @@ pub fn put_place(
 /// Puts the line behind the one with this number, if there is one.
 ///
 /// - `Memory`: memory ran out. A part of it may stand at the end of the text then.
-fn put_next(
+fn put_line_after(
     alloc: Global,
     file: SourceFile,
     lines: &mut LineFinder<'_>,
@@ -45,7 +45,7 @@ fn put_next(
     ensures same { lines.new.lines ≡ lines.old.lines }
 {
     // a file has no more lines than bytes
-    if number >= lines.most_lines() {
+    if number >= lines.line_count_bound() {
         return Ok(());
     }
     put_line(alloc, file, lines, number + 1, text)

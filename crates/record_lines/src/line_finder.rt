@@ -41,7 +41,7 @@ impl<'a> LineFinder<'a> {
     }
 
     /// A number that the text has no more lines than.
-    pub fn most_lines(&self) -> usize
+    pub fn line_count_bound(&self) -> usize
         ensures { length self.now.lines ≤ result }
     {
         self.bytes.len()

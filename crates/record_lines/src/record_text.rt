@@ -38,7 +38,7 @@ fn put_values(alloc: Global, shown: &Record, text: &mut Text) -> Result<(), Memo
         ++ flat_map (file_values (kept_record shown.now)) derived_files) }
 {
     'files: for file in DerivedFile::all() {
-        put_file(alloc, *file, shown, text)?;
+        put_file_values(alloc, *file, shown, text)?;
     }
     Ok(())
 }
@@ -46,7 +46,12 @@ fn put_values(alloc: Global, shown: &Record, text: &mut Text) -> Result<(), Memo
 /// Puts the lines of the properties of a derived file.
 ///
 /// - `Memory`: memory ran out. A part of them may stand at the end of the text then.
-fn put_file(alloc: Global, file: DerivedFile, shown: &Record, text: &mut Text) -> Result<(), Memory>
+fn put_file_values(
+    alloc: Global,
+    file: DerivedFile,
+    shown: &Record,
+    text: &mut Text,
+) -> Result<(), Memory>
     ensures { OnOk result (text.new ≡ text.old ++ file_values (kept_record shown.now) file) }
 {
     'listings: for listing in file_listings(file) {

@@ -13,7 +13,7 @@ ghost use Rattle.record_lines.specs.PointTexts.{with_more};
 ghost use Rattle.record_lines.specs.RowLines.{file_rows_text, if_speaks, is_range, place_of, rows_lines, rows_text};
 ghost use Rattle.record_lines.specs.declared.point_text.PointText.{PointText as Told};
 
-use crate::file_lines::put_place;
+use crate::file_lines::put_row_lines;
 use crate::line_finder::LineFinder;
 use crate::point_text::PointText;
 use crate::row_place::RowPlace;
@@ -33,7 +33,7 @@ pub fn put_rows(alloc: Global, release: &Release, told: &mut [PointText]) -> Res
     ensures { OnOk result (told.new ≡ map (with_more (rows_text release.now.current)) told.old) }
 {
     'files: for file in SourceFile::all() {
-        put_file(alloc, release, *file, told)?;
+        put_file_rows(alloc, release, *file, told)?;
     }
     Ok(())
 }
@@ -41,7 +41,7 @@ pub fn put_rows(alloc: Global, release: &Release, told: &mut [PointText]) -> Res
 /// Puts the rows of a file.
 ///
 /// - `Memory`: memory ran out. A part of them may have been put then.
-fn put_file(
+fn put_file_rows(
     alloc: Global,
     release: &Release,
     file: SourceFile,
@@ -51,16 +51,16 @@ fn put_file(
         ≡ map (with_more (file_rows_text (items_now release.now file) file)) told.old) }
 {
     if let Some(bytes) = release.whole_text(file) {
-        return put_from(alloc, file, bytes, release.rows(file), told);
+        return put_lines_of_rows(alloc, file, bytes, release.rows(file), told);
     }
     let bytes = release.text(alloc, file)?;
-    put_from(alloc, file, bytes.as_slice(), release.rows(file), told)
+    put_lines_of_rows(alloc, file, bytes.as_slice(), release.rows(file), told)
 }
 
 /// Puts the lines of rows of a file with these bytes.
 ///
 /// - `Memory`: memory ran out. A part of them may have been put then.
-fn put_from(
+fn put_lines_of_rows(
     alloc: Global,
     file: SourceFile,
     bytes: &[u8],
@@ -98,7 +98,7 @@ fn put_row(
     }
     let row = row.row();
     let text = lines_of(alloc, file, line, &row, lines)?;
-    put_text(&row, text.as_slice(), told)
+    put_lines_by_point(&row, text.as_slice(), told)
 }
 
 /// The lines of a row, each with where it stands.
@@ -117,7 +117,7 @@ fn lines_of(
 {
     let mut text = Text::new(alloc);
     let range = is_range(row);
-    put_place(alloc, file, lines, RowPlace { line, range }, &mut text)?;
+    put_row_lines(alloc, file, lines, RowPlace { line, range }, &mut text)?;
     Ok(text)
 }
 
@@ -131,7 +131,7 @@ fn covers_any(row: &RowText<'_>, told: &[PointText]) -> bool
 /// Puts the lines of a row behind what is told of the code points of which it speaks.
 ///
 /// - `Memory`: memory ran out. They may have been put at some of them then.
-fn put_text(row: &RowRef<'_>, lines: &[u8], told: &mut [PointText]) -> Result<(), Memory>
+fn put_lines_by_point(row: &RowRef<'_>, lines: &[u8], told: &mut [PointText]) -> Result<(), Memory>
     ensures { OnOk result (told.new
         ≡ map (with_more (if_speaks (row_in row.now) lines.now)) told.old) }
 {

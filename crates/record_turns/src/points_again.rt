@@ -44,14 +44,14 @@ pub fn derive_again<W: FactView, S: Store<Option<Queries>>, L: Ledger>(
 {
     let mut changed = Points::new(alloc);
     'points: for c in points {
-        derive_more(alloc, view, *c, records, map, &mut changed, steps)?;
+        derive_point_again(alloc, view, *c, records, map, &mut changed, steps)?;
     }
     Ok(changed)
 }
 
 /// Derives a code point, prepares its record and what it asks, and puts it behind others if its record differs from the one
 /// now, in one step.
-fn derive_more<W: FactView, S: Store<Option<Queries>>, L: Ledger>(
+fn derive_point_again<W: FactView, S: Store<Option<Queries>>, L: Ledger>(
     alloc: Global,
     view: &W,
     c: Point,
@@ -72,8 +72,8 @@ fn derive_more<W: FactView, S: Store<Option<Queries>>, L: Ledger>(
     ensures stop { IfErr result (λ stop. IsFound (W.facts_of view.now) c (Err stop)) }
     ensures step { steps.new ≡ steps.old + 1 }
 {
-    match derive_asked(alloc, view, c, steps) {
-        Ok(found) => Ok(put_found(c, found, records, map, changed)?),
+    match derive_with_questions(alloc, view, c, steps) {
+        Ok(found) => Ok(prepare_derived_point(c, found, records, map, changed)?),
         Err(stop) => Err(stop),
     }
 }
@@ -81,7 +81,7 @@ fn derive_more<W: FactView, S: Store<Option<Queries>>, L: Ledger>(
 /// Prepares what a code point asks, and its record, and puts it behind others, if the record differs from the one now.
 ///
 /// - `Memory`: memory ran out. Either may be prepared.
-fn put_found<S: Store<Option<Queries>>>(
+fn prepare_derived_point<S: Store<Option<Queries>>>(
     c: Point,
     found: Derived,
     records: &mut RecordTable,
@@ -123,7 +123,7 @@ fn put_if_changed(
 }
 
 /// The record of a code point and what it asks, or the first rule that it breaks, in one step.
-fn derive_asked<W: FactView, L: Ledger>(
+fn derive_with_questions<W: FactView, L: Ledger>(
     alloc: Global,
     view: &W,
     c: Point,

@@ -56,7 +56,7 @@ pub fn turn<W: FactView, S: Store<Option<Queries>>, L: Ledger>(
     ensures dropped { OnErr result
         (SameValues (asked_at S.next map.new) (asked_at S.next map.old)) }
 {
-    match turn_in_part(alloc, view, queries, records, map, steps) {
+    match turn_without_discard(alloc, view, queries, records, map, steps) {
         Ok(changed) => Ok(changed),
         Err(stop) => {
             records.discard();
@@ -67,7 +67,7 @@ pub fn turn<W: FactView, S: Store<Option<Queries>>, L: Ledger>(
 }
 
 /// What `turn` does. After either error, some may be prepared.
-fn turn_in_part<W: FactView, S: Store<Option<Queries>>, L: Ledger>(
+fn turn_without_discard<W: FactView, S: Store<Option<Queries>>, L: Ledger>(
     alloc: Global,
     view: &W,
     queries: &Queries,

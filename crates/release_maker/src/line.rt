@@ -40,7 +40,7 @@ pub fn put_line(series: Series, i: u32, text: &mut Text) -> Result<(), Memory>
     let base = Point::at(BASE + i);
     let composite = Point::at(COMPOSITE + i);
     match series {
-        Series::Base => put_base(base, text),
+        Series::Base => put_unmapped_row(base, text),
         Series::Composite => put_mapped(
             composite,
             b";COMPOSITE;Lo;0;L;",
@@ -63,7 +63,7 @@ pub fn put_line(series: Series, i: u32, text: &mut Text) -> Result<(), Memory>
 }
 
 /// Puts the row of a code point without a mapping.
-fn put_base(base: Point, text: &mut Text) -> Result<(), Memory>
+fn put_unmapped_row(base: Point, text: &mut Text) -> Result<(), Memory>
     ensures { OnOk result (text.new ≡ text.old
         ++ line_text (hex_text base ++ codes ";BASE;Lo;0;L;;;;;N;;;;;")) }
 {

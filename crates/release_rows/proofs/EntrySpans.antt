@@ -6,7 +6,7 @@ use Rattle.ucd_points.specs.declared.files.SourceFile.TheVariants.{UnicodeData, 
 use Rattle.ucd_facts.specs.declared.row.Row.TheVariants.{Unit as DataLine, Value as ValueLine, Exclusion as ExclusionLine, Fold as FoldLine, Casing as CasingLine, Alias as AliasLine, Missing as MissingLine}
 use Rattle.source_rows.specs.KeyNames.{has_code}
 use Rattle.source_rows.specs.Keys.{row_span}
-use Rattle.source_rows.specs.Laws.{RowsAreOk, RowsAreRead}
+use Rattle.source_rows.specs.Laws.{PossibleRowsAreReadable, RowsAreRead}
 use Rattle.part_list.specs.declared.entry.Entry.{Entry}
 use Rattle.release_rows.specs.Operations.{row_passes, row_spans, spans_of}
 use Rattle.release_rows.specs.FileItems.{FileItem, SourceFile, Row}
@@ -50,21 +50,21 @@ no_spans CompositionExclusions row ok h = absurd cc
 no_spans CaseFolding row ok h = absurd cc
 no_spans SpecialCasing row ok h = absurd cc
 
-row_ok : (file : SourceFile) (content : List ℕ) (row : Row) → RowsAreRead → RowsAreOk → StoredAs file content (Some row) → RowOk file row
+row_ok : (file : SourceFile) (content : List ℕ) (row : Row) → RowsAreRead → PossibleRowsAreReadable → StoredAs file content (Some row) → RowOk file row
 row_ok file content row read ok st = (ok file row).1 (content, (read file content row).0 st.1)
 
-spans_by : (file : SourceFile) (content : List ℕ) (code last : ℕ) (o : Option Row) → RowsAreRead → RowsAreOk → StoredAs file content o → HasSpan o code last → is_some o ≡ true → has_code file ≡ true → Spans code last (spans_of o)
+spans_by : (file : SourceFile) (content : List ℕ) (code last : ℕ) (o : Option Row) → RowsAreRead → PossibleRowsAreReadable → StoredAs file content o → HasSpan o code last → is_some o ≡ true → has_code file ≡ true → Spans code last (spans_of o)
 spans_by file content code last None read ok st span some h = absurd cc
 spans_by file content code last (Some row) read ok st span some h = rw (span.0, span.1) (code_spans file row (row_ok file content row read ok st) h)
 
-none_by : (file : SourceFile) (content : List ℕ) (o : Option Row) → RowsAreRead → RowsAreOk → StoredAs file content o → is_some o ≡ true → has_code file ≡ false → spans_of o ≡ []
+none_by : (file : SourceFile) (content : List ℕ) (o : Option Row) → RowsAreRead → PossibleRowsAreReadable → StoredAs file content o → is_some o ≡ true → has_code file ≡ false → spans_of o ≡ []
 none_by file content None read ok st some h = absurd cc
 none_by file content (Some row) read ok st some h = no_spans file row (row_ok file content row read ok st) h
 
-pub stored_spans : (file : SourceFile) (text : List ℕ) (e : Entry StoredItem) → RowsAreRead → RowsAreOk → IsStored file text e → is_some (item_at file text e.item).row ≡ true → has_code file ≡ true → Spans e.code e.last (spans_of (item_at file text e.item).row)
+pub stored_spans : (file : SourceFile) (text : List ℕ) (e : Entry StoredItem) → RowsAreRead → PossibleRowsAreReadable → IsStored file text e → is_some (item_at file text e.item).row ≡ true → has_code file ≡ true → Spans e.code e.last (spans_of (item_at file text e.item).row)
 stored_spans file text e read ok h some code = spans_by file (content_at text e.item) e.code e.last (item_at file text e.item).row read ok (stored_as file text e h) h.span some code
 
-pub stored_no_spans : (file : SourceFile) (text : List ℕ) (e : Entry StoredItem) → RowsAreRead → RowsAreOk → IsStored file text e → is_some (item_at file text e.item).row ≡ true → has_code file ≡ false → spans_of (item_at file text e.item).row ≡ []
+pub stored_no_spans : (file : SourceFile) (text : List ℕ) (e : Entry StoredItem) → RowsAreRead → PossibleRowsAreReadable → IsStored file text e → is_some (item_at file text e.item).row ≡ true → has_code file ≡ false → spans_of (item_at file text e.item).row ≡ []
 stored_no_spans file text e read ok h some code = none_by file (content_at text e.item) (item_at file text e.item).row read ok (stored_as file text e h) some code
 
 pub has_row : (p : Row → Bool) (item : FileItem) → row_passes p item ≡ true → is_some item.row ≡ true

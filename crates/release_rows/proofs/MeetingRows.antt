@@ -4,7 +4,7 @@ use Rattle.std.specs.List.{All, list_any}
 use Rattle.std.proofs.lemmas.List.Elements.{All-head, All-tail, filter-append}
 use Rattle.ucd_points.specs.Bounds.{Bounds}
 use Rattle.source_rows.specs.KeyNames.{has_code}
-use Rattle.source_rows.specs.Laws.{RowsAreOk, RowsAreRead}
+use Rattle.source_rows.specs.Laws.{PossibleRowsAreReadable, RowsAreRead}
 use Rattle.part_list.specs.declared.entry.Entry.{Entry}
 use Rattle.release_rows.specs.FileItems.{rows_in, onto_rows, SourceFile, Row}
 use Rattle.release_rows.specs.Keys.{spans_meet}
@@ -42,7 +42,7 @@ filter_one : (p : Row → Bool) (row : Row) (b : Bool) → p row ≡ b → filte
 filter_one p row b e = rw e refl
 
 -- a row with a code speaks of the code points of its entry
-pub met : (file : SourceFile) (text : List ℕ) (spans : List Bounds) (e : Entry StoredItem) (o : Option Row) → (stored_at file text e).row ≡ o → RowsAreRead → RowsAreOk → IsStored file text e → has_code file ≡ true
+pub met : (file : SourceFile) (text : List ℕ) (spans : List Bounds) (e : Entry StoredItem) (o : Option Row) → (stored_at file text e).row ≡ o → RowsAreRead → PossibleRowsAreReadable → IsStored file text e → has_code file ≡ true
     → (b : Bool) → list_any (spans_meet (record { lo = e.code; hi = e.last })) spans ≡ b → filter (meets spans) (onto_rows o []) ≡ cond b (onto_rows o []) []
 met file text spans e None is read ok stored code true test = refl
 met file text spans e None is read ok stored code false test = refl
@@ -53,7 +53,7 @@ met file text spans e (Some row) is read ok stored code b test =
     filter_one (meets spans) row b (meets_by spans (row_spans row) e.code e.last spoken ∙ test)
 
 -- a row of names meets nothing
-pub not_met : (file : SourceFile) (text : List ℕ) (spans : List Bounds) (e : Entry StoredItem) (o : Option Row) → (stored_at file text e).row ≡ o → RowsAreRead → RowsAreOk → IsStored file text e → has_code file ≡ false
+pub not_met : (file : SourceFile) (text : List ℕ) (spans : List Bounds) (e : Entry StoredItem) (o : Option Row) → (stored_at file text e).row ≡ o → RowsAreRead → PossibleRowsAreReadable → IsStored file text e → has_code file ≡ false
     → filter (meets spans) (onto_rows o []) ≡ []
 not_met file text spans e None is read ok stored none = refl
 not_met file text spans e (Some row) is read ok stored none =
@@ -62,7 +62,7 @@ not_met file text spans e (Some row) is read ok stored none =
     filter_one (meets spans) row false (ap (λ (owns : List Bounds). list_any (λ own. list_any (spans_meet own) spans) owns) spoken)
 
 -- the rows of the entries that meet the spans are the rows that meet them
-pub rows_met : (file : SourceFile) (text : List ℕ) (spans : List Bounds) (items : List (Entry StoredItem)) → RowsAreRead → RowsAreOk → All (IsStored file text) items → has_code file ≡ true
+pub rows_met : (file : SourceFile) (text : List ℕ) (spans : List Bounds) (items : List (Entry StoredItem)) → RowsAreRead → PossibleRowsAreReadable → All (IsStored file text) items → has_code file ≡ true
     → rows_in (map (stored_at file text) (filter (entry_meets spans) items)) ≡ filter (meets spans) (rows_in (map (stored_at file text) items))
 rows_met file text spans [] read ok stored code = refl
 rows_met file text spans (e ∷ items) read ok stored code =
@@ -96,7 +96,7 @@ pub meets_alike : (spans others : List Bounds) → ((own : Bounds) → list_any 
 meets_alike spans others alike rows = λ i. filter (λ row. list_any (λ own. alike own i) (row_spans row)) rows
 
 -- no row of names meets a span
-pub none_met : (file : SourceFile) (text : List ℕ) (spans : List Bounds) (items : List (Entry StoredItem)) → RowsAreRead → RowsAreOk → All (IsStored file text) items → has_code file ≡ false
+pub none_met : (file : SourceFile) (text : List ℕ) (spans : List Bounds) (items : List (Entry StoredItem)) → RowsAreRead → PossibleRowsAreReadable → All (IsStored file text) items → has_code file ≡ false
     → [] ≡ filter (meets spans) (rows_in (map (stored_at file text) items))
 none_met file text spans [] read ok stored none = refl
 none_met file text spans (e ∷ items) read ok stored none =

@@ -12,7 +12,7 @@ use Rattle.ucd_points.specs.Lines.{LineItem, lf, ended_item, ends_in_return, ite
 use Rattle.ucd_points.specs.MissingLines.{is_trivia}
 use Rattle.ucd_points.specs.declared.files.SourceFile.TheVariants.{UnicodeData}
 use Rattle.source_rows.specs.Lines.{is_first_line}
-use Rattle.source_rows.specs.RowLines.{TwoLines, RowsHaveLines}
+use Rattle.source_rows.specs.RowLines.{TwoLines, RowsAreLinesOrRanges}
 use Rattle.release_rows.specs.Cuts.{AreCut, Ascends, IsCut, IsToldApart}
 use Rattle.release_rows.specs.FileItems.{FileItem, bytes_of, rows_in, SourceFile, Row}
 use Rattle.release_rows.specs.Laws.{ReloadsTheSame}
@@ -36,11 +36,11 @@ pub record Recut (file : SourceFile) (items : List FileItem) : Type 0 where
 -- ---- one line
 
 -- a line that is read begins no range
-closed_by : (content : List ℕ) (o : Option Row) → RowsHaveLines → holds_line_feed content ≡ false → StoredAs UnicodeData content o → opens_range UnicodeData content ≡ false
+closed_by : (content : List ℕ) (o : Option Row) → RowsAreLinesOrRanges → holds_line_feed content ≡ false → StoredAs UnicodeData content o → opens_range UnicodeData content ≡ false
 closed_by content None law no_feed read = rw read refl
 closed_by content (Some row) law no_feed read = rw (read.0, (law UnicodeData content row read.1).one no_feed refl) refl
 
-closed : (file : SourceFile) (content : List ℕ) (o : Option Row) → RowsHaveLines → holds_line_feed content ≡ false → StoredAs file content o → opens_range file content ≡ false
+closed : (file : SourceFile) (content : List ℕ) (o : Option Row) → RowsAreLinesOrRanges → holds_line_feed content ≡ false → StoredAs file content o → opens_range file content ≡ false
 closed UnicodeData content o law no_feed read = closed_by content o law no_feed read
 closed _ content o law no_feed read = refl
 
@@ -51,7 +51,7 @@ one_first file a (b ∷ rest) h = rw h refl
 one_item : (file : SourceFile) (item : FileItem) → is_read file item → item.lines ≡ 1 → file_item file (one_line (record { content = item.content; ending = item.ending })) ≡ item
 one_item file item read lines = rw (read, ← lines) refl
 
-one_recut : (file : SourceFile) (item : FileItem) (rest : List FileItem) → RowsHaveLines → is_read file item → IsCut item rest → IsToldApart item → holds_line_feed item.content ≡ false → Recut file rest → Recut file (item ∷ rest)
+one_recut : (file : SourceFile) (item : FileItem) (rest : List FileItem) → RowsAreLinesOrRanges → is_read file item → IsCut item rest → IsToldApart item → holds_line_feed item.content ≡ false → Recut file rest → Recut file (item ∷ rest)
 one_recut file item rest law read cut told no_feed more =
     let a : LineItem = record { content = item.content; ending = item.ending } in
     let alone = closed file item.content item.row law no_feed (content_stored file item.content item.row read) in
@@ -135,19 +135,19 @@ two_recut file item rest read cut told two more =
 
 -- ---- an item, and all of them
 
-item_recut : (file : SourceFile) (item : FileItem) (rest : List FileItem) (feed : Bool) (o : Option Row) → item.row ≡ o → holds_line_feed item.content ≡ feed → RowsHaveLines → is_read file item → IsCut item rest → IsToldApart item → StoredAs file item.content o → Recut file rest → Recut file (item ∷ rest)
+item_recut : (file : SourceFile) (item : FileItem) (rest : List FileItem) (feed : Bool) (o : Option Row) → item.row ≡ o → holds_line_feed item.content ≡ feed → RowsAreLinesOrRanges → is_read file item → IsCut item rest → IsToldApart item → StoredAs file item.content o → Recut file rest → Recut file (item ∷ rest)
 item_recut file item rest false o e no_feed law read cut told stored more = one_recut file item rest law read cut told no_feed more
 item_recut file item rest true None e feed law read cut told stored more = absurd (false≢true (sym (cut.trivia e) ∙ feed))
 item_recut file item rest true (Some row) e feed law read cut told stored more = two_recut file item rest read cut told ((law file item.content row stored.1).two feed) more
 
-pub recut : (file : SourceFile) (items : List FileItem) → RowsHaveLines → AllRead file items → AreCut items → All IsToldApart items → Recut file items
+pub recut : (file : SourceFile) (items : List FileItem) → RowsAreLinesOrRanges → AllRead file items → AreCut items → All IsToldApart items → Recut file items
 recut file [] law read cut told = record { lines = []; are_lines = tt; cut = refl; none = λ e. refl }
 recut file (item ∷ rest) law read cut told =
     item_recut file item rest (holds_line_feed item.content) item.row refl refl law read.0 cut.0 (All-head IsToldApart item rest told) (content_stored file item.content item.row read.0) (recut file rest law read.1 cut.1 (All-tail IsToldApart item rest told))
 
 -- ---- a file
 
-same_file : (file : SourceFile) (items : List FileItem) → LinesAreUnique → RowsHaveLines → AreKept file items → Ascends file (rows_in items) → AreCut items → All IsToldApart items → file_or_fault file (bytes_of items) ≡ Ok items
+same_file : (file : SourceFile) (items : List FileItem) → LinesAreUnique → RowsAreLinesOrRanges → AreKept file items → Ascends file (rows_in items) → AreCut items → All IsToldApart items → file_or_fault file (bytes_of items) ≡ Ok items
 unfolding file_or_fault
 same_file file items unique law kept rise cut told =
     let again = recut file items law (all_read file [] items kept) cut told in
@@ -157,5 +157,5 @@ same_file file items unique law kept rise cut told =
     let none : first_fault file [] ps ≡ None = no_faults file [] ps (subst (AreKept file) (sym again.cut) kept) (subst (λ (is : List FileItem). Ascends file (rows_in is)) (sym again.cut) rise) in
     rw (lines, none) (ap (λ (is : List FileItem). Ok is) again.cut)
 
-pub reloads_the_same : LinesAreUnique → RowsHaveLines → ReloadsTheSame
+pub reloads_the_same : LinesAreUnique → RowsAreLinesOrRanges → ReloadsTheSame
 reloads_the_same unique law file items sound told small = rw (le-ltb file_limit (length (bytes_of items)) small) (same_file file items unique law sound.kept sound.ascends sound.cut told)

@@ -13,7 +13,7 @@ use Rattle.ucd_points.specs.SourceFiles.{file_at, file_at-place, file_place, fil
 use Rattle.std.proofs.lemmas.Bool.{cases_eq}
 use Rattle.release_rows.specs.Loading.{content_row}
 use Rattle.source_rows.specs.declared.fault.RowFault.{RowFault}
-use Rattle.source_rows.specs.Laws.{RowsAreOk, RowsAreRead}
+use Rattle.source_rows.specs.Laws.{PossibleRowsAreReadable, RowsAreRead}
 use Rattle.source_rows.specs.Faults.{row_or_fault}
 use Rattle.ucd_facts.specs.RowValues.{RowOk}
 use Rattle.ucd_points.specs.MissingLines.{is_trivia}
@@ -47,7 +47,7 @@ rows_of_numbered line (item ∷ items) = numbered_one line item.row items (line 
 
 -- ---- rows that are kept
 
-pub row_ok : RowsAreRead → RowsAreOk → (file : SourceFile) (content : List ℕ) (row : Row) → content_row file content ≡ Ok (Some row) → RowOk file row
+pub row_ok : RowsAreRead → PossibleRowsAreReadable → (file : SourceFile) (content : List ℕ) (row : Row) → content_row file content ≡ Ok (Some row) → RowOk file row
 row_ok read ok file content row h = by (is_trivia file content) (row_or_fault file content) refl refl
   where
     same_row : (a b : Row) → ◌≡◌ {A = Result (Option Row) RowFault} (Ok (Some a)) (Ok (Some b)) → a ≡ b

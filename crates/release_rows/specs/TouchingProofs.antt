@@ -8,7 +8,7 @@ use Rattle.ucd_points.specs.Bounds.{Bounds}
 use Rattle.ucd_facts.specs.Facts.{within}
 use Rattle.release_rows.specs.Keys.{spans_meet}
 use Rattle.release_rows.specs.Operations.{row_spans}
-use Rattle.release_rows.specs.Touching.{RowsMeet}
+use Rattle.release_rows.specs.Touching.{SpeakingRowsMeetSpans}
 
 meet_one : (own span : Bounds) (c : ℕ) → within c own ≡ true → within c span ≡ true → spans_meet own span ≡ true
 meet_one own span c here there = grind (arith, nat_tests)
@@ -29,5 +29,5 @@ meet_all (own ∷ owns) spans c there is =
       | inr rest ↦ or_right (list_any (spans_meet own) spans) (list_any (λ o. list_any (spans_meet o) spans) owns) (meet_all owns spans c there rest)
     ]
 
-pub rows_meet : RowsMeet
+pub rows_meet : SpeakingRowsMeetSpans
 rows_meet spans c row there speaks = meet_all (row_spans row) spans c there speaks

@@ -33,7 +33,12 @@ fn is_plain(kind: Kind, members: usize) -> bool
 }
 
 /// Whether there is no mapping at all; `plain` says that there is no decomposition mapping.
-fn is_bare(plain: bool, upper: Option<Point>, lower: Option<Point>, title: Option<Point>) -> bool
+fn has_no_mapping(
+    plain: bool,
+    upper: Option<Point>,
+    lower: Option<Point>,
+    title: Option<Point>,
+) -> bool
     ensures { result ≡ is_bare plain upper lower title }
 {
     plain && upper.is_none() && lower.is_none() && title.is_none()
@@ -69,7 +74,7 @@ impl Brief {
     {
         let members = values.decomposition.mapping.len();
         let plain = is_plain(values.decomposition.kind, members);
-        let bare = is_bare(plain, values.upper, values.lower, values.title);
+        let bare = has_no_mapping(plain, values.upper, values.lower, values.title);
         brief_if(bare, values.category, values.class)
     }
 
@@ -80,7 +85,7 @@ impl Brief {
         match row {
             Row::Unit(row) => {
                 let plain = is_plain(row.kind, row.mapping.as_slice().len());
-                let bare = is_bare(plain, row.upper, row.lower, row.title);
+                let bare = has_no_mapping(plain, row.upper, row.lower, row.title);
                 brief_if(bare, row.category, row.class)
             }
             _ => Brief::none(),

@@ -68,7 +68,7 @@ fn ordinary_gap(
         return end_gap(items, search);
     }
     if let Some(spot) = items.first_behind(
-        leads.items_passed(search),
+        leads.skippable_items(search),
         &search.with(Test::Follows),
     ) {
         return match items.before(spot) {
@@ -118,7 +118,7 @@ pub fn gap_for(
         → IsGapAt result (place_in search.now.file row
         (map (stored_at search.now.file search.now.text) (next_in items.now))) items.now.next }
 {
-    if search.is_missing() {
+    if search.seeks_missing_row() {
         missing_gap(items, search)
     } else {
         ordinary_gap(items, seen_hashes, leads, search)
@@ -138,7 +138,11 @@ fn gap_place(items: &PartList<StoredItem>, gap: Gap) -> usize
 }
 
 /// How many entries stand before a gap of a file that has leads; `None` for another file.
-pub fn lead_count(file: SourceFile, items: &PartList<StoredItem>, gap: Gap) -> Option<usize>
+pub fn gap_place_for_leads(
+    file: SourceFile,
+    items: &PartList<StoredItem>,
+    gap: Gap,
+) -> Option<usize>
     requires gap { (n : ℕ) × IsGapAt gap n items.now.next }
     requires few { length (next_in items.now) < 2 ^ 63 }
     ensures { (n : ℕ) → IsGapAt gap n items.now.next
@@ -151,7 +155,7 @@ pub fn lead_count(file: SourceFile, items: &PartList<StoredItem>, gap: Gap) -> O
 }
 
 /// The entry, with a LF if it has no line end.
-fn with_end(entry: Entry<StoredItem>) -> Entry<StoredItem>
+fn with_line_end(entry: Entry<StoredItem>) -> Entry<StoredItem>
     ensures item { (file : FileValue) (text : List ℕ)
         → stored_at file text result ≡ with_end (stored_at file text entry) }
     ensures stored { (file : FileValue) (text : List ℕ) → IsStored file text entry
@@ -191,7 +195,7 @@ pub fn put_in(
     match gap {
         Gap::Front(spot) => items.insert(spot, entry),
         Gap::Behind(spot) => {
-            let ended = with_end(items.get(spot));
+            let ended = with_line_end(items.get(spot));
             items.replace_and_insert(spot, ended, entry)
         }
         Gap::Only => items.push_next(entry),

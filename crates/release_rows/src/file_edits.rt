@@ -8,7 +8,7 @@ ghost use Rattle.release_rows.specs.Operations.{AnswersOp, IsOp, edited, op_file
 ghost use Rattle.release_rows.specs.Releases.{AreKept, committed, discarded};
 ghost use Rattle.release_rows.specs.declared.operation.Op.TheVariants.{Add, Change, Withdraw};
 
-use crate::edits::{lead_count, put_in};
+use crate::edits::{gap_place_for_leads, put_in};
 use crate::file_text::FileText;
 use crate::key_search::{added_gap, changed_spot, search_row, withdrawn_spot};
 use crate::noted::{has_hashes, hashes_of};
@@ -72,7 +72,7 @@ impl FileText {
             let search = search_row(self.file, self.text.as_slice(), row, key, bytes);
             added_gap(&self.items, &self.seen_hashes, &self.leads, &search)?
         };
-        let count = lead_count(self.file, &self.items, gap);
+        let count = gap_place_for_leads(self.file, &self.items, gap);
         self.whole = false;
         let entry = store_row(
             &mut self.text,
@@ -85,7 +85,7 @@ impl FileText {
         put_in(&mut self.items, gap, entry)?;
         self.added = added;
         let search = search_row(self.file, self.text.as_slice(), row, key, bytes);
-        self.leads.note(alloc, &search, count, entry.item);
+        self.leads.note_added_row(alloc, &search, count, entry.item);
         Ok(())
     }
 

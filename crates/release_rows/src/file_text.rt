@@ -9,12 +9,12 @@ ghost use Rattle.release_rows.specs.Releases.{rows_at};
 ghost use Rattle.release_rows.specs.StoredItems.{stored_at, IsStored, IsWhole};
 ghost use Rattle.release_rows.specs.Touching.{meets};
 
-use crate::join::joined;
+use crate::join::joined_items;
 use crate::lead::Leads;
 use crate::row_iter::Rows;
 use crate::row_text::RowText;
 use crate::stored_item::StoredItem;
-use crate::touching::touching_rows;
+use crate::touching::next_rows_touching;
 use part_list::{PartList, SeenNumbers};
 use std::alloc::Global;
 use std::marker::Model;
@@ -100,7 +100,7 @@ impl FileText {
             text.append(self.text.as_slice())?;
             return Ok(text);
         }
-        joined(alloc, self.file, self.text.as_slice(), self.items.entries())
+        joined_items(alloc, self.file, self.text.as_slice(), self.items.entries())
     }
 
     /// The bytes of the file now, if they are kept as one text: the file was not edited. `None` of another.
@@ -135,7 +135,7 @@ impl FileText {
             ≡ filter (meets spans.now) (rows_in self.now.next)) }
     {
         let text = self.text.as_slice();
-        let rows = touching_rows(alloc, self.file, text, &self.items, spans)?;
+        let rows = next_rows_touching(alloc, self.file, text, &self.items, spans)?;
         Ok(rows)
     }
 }

@@ -7,7 +7,7 @@ ghost use Rattle.source_rows.specs.Keys.{condition_names};
 ghost use Rattle.release_rows.specs.Noted.{group_hash, key_hash, hash_on, names_hash};
 
 use crate::tag::field_at;
-use source_rows::content_group;
+use source_rows::content_section;
 use ucd_facts::{SourceFile, Text};
 use ucd_lines::{Fields, fields, is_blank};
 
@@ -116,7 +116,7 @@ pub fn content_hash(file: SourceFile, code: u32, content: &[u8]) -> u32
     ensures { result ≡ key_hash file code (content_names file content.now) }
 {
     match file {
-        SourceFile::PropList => with_name(0, content_group(file, content)),
+        SourceFile::PropList => with_name(0, content_section(file, content)),
         SourceFile::SpecialCasing => with_conditions(code, field_at(fields(file, content), 4)),
         SourceFile::PropertyAliases => fields_hash(fields(file, content), 2),
         SourceFile::PropertyValueAliases => fields_hash(fields(file, content), 3),

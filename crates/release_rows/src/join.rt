@@ -44,7 +44,7 @@ fn put_item(
 /// The bytes of items of a text, put together.
 ///
 /// - `Memory`: memory ran out.
-pub fn joined(
+pub fn joined_items(
     alloc: Global,
     file: SourceFile,
     text: &[u8],

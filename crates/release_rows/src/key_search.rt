@@ -19,17 +19,17 @@ use crate::edits::{Gap, gap_for};
 use crate::hash::key_hash;
 use crate::key_rule::KeyRule;
 use crate::lead::Leads;
-use crate::op_spans::{code_of, has_code};
-use crate::row_key::row_end;
+use crate::op_spans::{code_or_zero, has_code};
+use crate::row_key::unshared_end;
 use crate::search::{Search, Test};
 use crate::stored_item::StoredItem;
 use crate::tag::{content_tag, key_tag};
 use part_list::{PartList, SeenNumbers, Spot};
-use source_rows::{Key, content_group, contents_have_keys};
+use source_rows::{Key, content_section, contents_have_keys};
 use ucd_facts::{Row, SourceFile};
 
 /// Whether a row is a missing row.
-fn is_missing(row: &Row) -> bool
+fn is_missing_line(row: &Row) -> bool
     ensures { result ≡ is_missing_row row.now }
 {
     matches!(row, Row::Missing(_))
@@ -52,12 +52,12 @@ pub fn search_row<'a>(
         test: Test::Any,
         file,
         text,
-        code: code_of(key),
-        last: row_end(file, row),
+        code: code_or_zero(key),
+        last: unshared_end(file, row),
         names: key.names.as_slice(),
-        group: content_group(file, bytes),
+        group: content_section(file, bytes),
         tag: content_tag(file, bytes),
-        missing: is_missing(row),
+        missing: is_missing_line(row),
     }
 }
 
@@ -82,7 +82,7 @@ pub fn added_gap(
         → FindsGap result search.now.file search.now.text row items.now.next }
 {
     contents_have_keys();
-    if is_new_key(seen_hashes, search) {
+    if is_surely_new_key(seen_hashes, search) {
         return Ok(gap_for(items, seen_hashes, leads, search));
     }
     if items.first(&search.with(Test::SameKey)).is_some() {
@@ -95,7 +95,7 @@ pub fn added_gap(
 }
 
 /// Whether no row has the hash of the key that is looked for, as far as keys are noted. So none has the key, and none overlaps the row.
-fn is_new_key(seen_hashes: &SeenNumbers, search: &Search<'_>) -> bool
+fn is_surely_new_key(seen_hashes: &SeenNumbers, search: &Search<'_>) -> bool
     ensures { result ≡ true → may_have seen_hashes.now
         (key_hash search.now.file search.now.code search.now.names) ≡ false }
 {
@@ -138,7 +138,7 @@ pub fn withdrawn_spot(
     if key.code.is_some() != has_code(file) {
         return Err(KeyRule::K2);
     }
-    let code = code_of(key);
+    let code = code_or_zero(key);
     let names = key.names.as_slice();
     let search = Search {
         test: Test::SameKey,

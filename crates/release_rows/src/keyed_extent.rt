@@ -43,7 +43,7 @@ fn ends_before(row: &KeyedExtent, next: &KeyedExtent) -> bool
 }
 
 /// Whether each row ends before the next one.
-fn is_chain(rows: &[KeyedExtent]) -> bool
+fn each_ends_before_next(rows: &[KeyedExtent]) -> bool
     ensures { IsTrue result → IsChain rows.now }
 {
     'rows: for at in 1..rows.len() {
@@ -63,5 +63,5 @@ pub fn are_apart(mut rows: Vec<KeyedExtent>) -> Result<bool, Memory>
     ensures { IfOk result (λ apart. apart ≡ true → IsDistinct places_meet rows.items) }
 {
     rows.sort()?;
-    Ok(is_chain(&rows))
+    Ok(each_ends_before_next(&rows))
 }

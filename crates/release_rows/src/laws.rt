@@ -2,12 +2,12 @@
 
 ghost use Rattle.release_rows.specs.OperationLaws.{MissingRowsOverlapNothing, OperationsKeepCuts, OperationsKeepOrder, OperationsKeepRows, RowsStay};
 ghost use Rattle.release_rows.specs.Patches.{RowsStayBack};
-ghost use Rattle.release_rows.specs.Touching.{RowsMeet};
+ghost use Rattle.release_rows.specs.Touching.{SpeakingRowsMeetSpans};
 ghost use Rattle.release_rows.specs.Unchanged.{EverythingElseStays};
 ghost use Rattle.release_rows.specs.ValuesApart.{ValuesAreApart};
 ghost use Rattle.release_rows.specs.Laws.{FaultsAreFirst, LoadsExactly, BytesAreKept, LoadedFilesAreSound, ReloadsTheSame};
 
-use source_rows::{rows_are_no_trivia, rows_have_lines};
+use source_rows::{rows_are_lines_or_ranges, rows_are_no_trivia};
 use ucd_lines::{
     endings_are_told_apart, items_join, lines_are_unique, no_line_feed_inside,
     only_the_last_is_unended,
@@ -45,7 +45,7 @@ pub fn reloads_the_same()
     ensures { ReloadsTheSame }
 {
     lines_are_unique();
-    rows_have_lines();
+    rows_are_lines_or_ranges();
 }
 
 /// If the items of a file are kept, they still are after an operation: each item is read from its content, keys differ,
@@ -85,8 +85,8 @@ pub fn rows_stay_back()
 {}
 
 /// A row that speaks of a code point in one of the spans is among those that meet the spans.
-pub fn rows_meet()
-    ensures { RowsMeet }
+pub fn speaking_rows_meet_spans()
+    ensures { SpeakingRowsMeetSpans }
 {}
 
 /// Everything but the operation's row keeps its content and its order, comments and empty lines too. Only the item in

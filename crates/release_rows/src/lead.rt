@@ -16,7 +16,7 @@ ghost use Rattle.release_rows.specs.StoredItems.{content_at};
 
 use crate::search::Search;
 use crate::stored_item::{StoredItem, content_in};
-use source_rows::{compare_names, content_group, contents_have_keys};
+use source_rows::{compare_names, content_section, contents_have_keys};
 use std::alloc::Global;
 use std::cmp::Ordering;
 use ucd_facts::SourceFile;
@@ -53,7 +53,7 @@ pub fn has_leads(file: SourceFile) -> bool
 }
 
 /// How the key that is looked for compares with that of a lead. The names of a lead at another code point are not read.
-fn compare(lead: Lead, search: &Search<'_>) -> Ordering
+fn compare_search_with_lead(lead: Lead, search: &Search<'_>) -> Ordering
     ensures { result ≡ ordering_then (nat_cmp search.now.code lead.code)
         (names_cmp search.now.names
         (content_names search.now.file (content_at search.now.text lead.item))) }
@@ -75,7 +75,7 @@ fn is_of_group(lead: Lead, search: &Search<'_>) -> bool
     ensures { result ≡ bytes_eq search.now.group
         (content_group search.now.file (content_at search.now.text lead.item)) }
 {
-    search.group == content_group(search.file, content_in(search.text, lead.item))
+    search.group == content_section(search.file, content_in(search.text, lead.item))
 }
 
 /// How many leads have no greater key than the one that is looked for, if they ascend by their keys.
@@ -86,7 +86,7 @@ fn lead_place(leads: &[Lead], search: &Search<'_>) -> usize
     let mut to = leads.len();
     'halves: while from < to {
         let middle = from + (to - from) / 2;
-        if compare(leads[middle], search).is_lt() {
+        if compare_search_with_lead(leads[middle], search).is_lt() {
             to = middle;
         } else {
             from = middle + 1;
@@ -96,43 +96,43 @@ fn lead_place(leads: &[Lead], search: &Search<'_>) -> usize
 }
 
 /// Whether a lead is of the group that is looked for, and has no greater key.
-fn is_up_to(lead: Lead, search: &Search<'_>) -> bool
+fn is_in_group_up_to(lead: Lead, search: &Search<'_>) -> bool
     ensures group { result ≡ true → bytes_eq search.now.group
         (content_group search.now.file (content_at search.now.text lead.item)) ≡ true }
     ensures order { result ≡ true → is_lt (ordering_then (nat_cmp search.now.code lead.code)
         (names_cmp search.now.names
         (content_names search.now.file (content_at search.now.text lead.item)))) ≡ false }
 {
-    is_of_group(lead, search) && !compare(lead, search).is_lt()
+    is_of_group(lead, search) && !compare_search_with_lead(lead, search).is_lt()
 }
 
 /// Whether a lead is of the group that is looked for, and has a lesser key.
-fn is_below(lead: Lead, search: &Search<'_>) -> bool
+fn is_in_group_below(lead: Lead, search: &Search<'_>) -> bool
     ensures { result ≡ (bytes_eq search.now.group
         (content_group search.now.file (content_at search.now.text lead.item))
         && is_gt (ordering_then (nat_cmp search.now.code lead.code)
         (names_cmp search.now.names
         (content_names search.now.file (content_at search.now.text lead.item))))) }
 {
-    is_of_group(lead, search) && compare(lead, search).is_gt()
+    is_of_group(lead, search) && compare_search_with_lead(lead, search).is_gt()
 }
 
 /// How many items are passed by a lead: none of them has a row of the group that is looked for with a greater key.
-fn items_passed_by(lead: Lead, search: &Search<'_>) -> usize
+fn skippable_by_lead(lead: Lead, search: &Search<'_>) -> usize
     ensures { (row : RowValue) (items : List FileItem)
         → IsSoughtRow search.now.file row search.now.text search.now
         → IsLead search.now.file search.now.text items lead
         → NoneFollows search.now.file row (take result items) }
 {
     contents_have_keys();
-    if is_up_to(lead, search) {
+    if is_in_group_up_to(lead, search) {
         return lead.count;
     }
     0
 }
 
 /// How many items are passed by leads that ascend by their keys.
-fn items_passed(leads: &[Lead], search: &Search<'_>) -> usize
+fn skippable_items(leads: &[Lead], search: &Search<'_>) -> usize
     ensures { (row : RowValue) (items : List FileItem)
         → IsSoughtRow search.now.file row search.now.text search.now
         → AreLeads search.now.file search.now.text items leads.now
@@ -142,7 +142,7 @@ fn items_passed(leads: &[Lead], search: &Search<'_>) -> usize
     if place == 0 {
         return 0;
     }
-    items_passed_by(leads[place - 1], search)
+    skippable_by_lead(leads[place - 1], search)
 }
 
 /// The lead, if the row that is looked for is put in behind so many items.
@@ -158,7 +158,7 @@ fn moved_lead(lead: Lead, search: &Search<'_>, count: usize) -> Lead
     if lead.count <= count {
         return lead;
     }
-    if is_below(lead, search) {
+    if is_in_group_below(lead, search) {
         return Lead { count, ..lead };
     }
     match lead.count.checked_add(1) {
@@ -211,7 +211,7 @@ fn note_row(leads: &mut Vec<Lead>, search: &Search<'_>, count: usize, item: Stor
         → AreLeads search.now.file search.now.text items leads.old.items
         → AreLeads search.now.file search.now.text (put_in items count added) leads.new.items }
 {
-    let seen = items_passed(leads, search);
+    let seen = skippable_items(leads, search);
     move_all(leads, search, count);
     if count.saturating_sub(seen) <= FEW {
         return;
@@ -254,21 +254,27 @@ impl Leads {
     }
 
     /// How many items are passed by leads: none of them has a row of the group that is looked for with a greater key.
-    pub fn items_passed(&self, search: &Search<'_>) -> usize
+    pub fn skippable_items(&self, search: &Search<'_>) -> usize
         ensures { (row : RowValue) (items : List FileItem)
             → IsSoughtRow search.now.file row search.now.text search.now
             → KeepLeads search.now.file search.now.text items self.now
             → NoneFollows search.now.file row (take result items) }
     {
         match &self.list {
-            Some(leads) => items_passed(leads, search),
+            Some(leads) => skippable_items(leads, search),
             None => 0,
         }
     }
 
     /// Notes that the row that is looked for, which stands there in the text, is put in at its place, behind so many items. There are no
     /// leads if the file has none, or if there is no memory for the first.
-    fn note_behind(&mut self, alloc: Global, search: &Search<'_>, count: usize, item: StoredItem)
+    fn note_added_row_behind(
+        &mut self,
+        alloc: Global,
+        search: &Search<'_>,
+        count: usize,
+        item: StoredItem,
+    )
         ensures { (row : RowValue) (items : List FileItem) (added : FileItem)
             → IsSoughtRow search.now.file row search.now.text search.now
             → GivesRow search.now.file search.now.text item row
@@ -289,7 +295,7 @@ impl Leads {
 
     /// Notes that the row that is looked for, which stands there in the text, is put in at its place. If it is told behind how many items
     /// that is, leads are moved for it; otherwise all are dropped.
-    pub fn note(
+    pub fn note_added_row(
         &mut self,
         alloc: Global,
         search: &Search<'_>,
@@ -307,7 +313,7 @@ impl Leads {
             (put_in items (place_in search.now.file row items) added) self.new }
     {
         match count {
-            Some(count) => self.note_behind(alloc, search, count, item),
+            Some(count) => self.note_added_row_behind(alloc, search, count, item),
             None => self.list = None,
         }
     }

@@ -52,7 +52,8 @@ pub use key_rule::KeyRule;
 pub use laws::{
     bytes_are_kept, everything_else_stays, faults_are_first, loaded_files_are_sound, loads_exactly,
     missing_rows_overlap_nothing, operations_keep_cuts, operations_keep_order,
-    operations_keep_rows, reloads_the_same, rows_meet, rows_stay, rows_stay_back, values_are_apart,
+    operations_keep_rows, reloads_the_same, rows_stay, rows_stay_back, speaking_rows_meet_spans,
+    values_are_apart,
 };
 pub use load_stop::{LoadRule, LoadStop};
 pub use operation::{Op, OpStop, Ops};

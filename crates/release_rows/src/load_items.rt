@@ -48,7 +48,7 @@ fn gather_all(alloc: Global, file: SourceFile, bytes: &[u8]) -> Result<Gathered,
     let mut loading = Loading::new(alloc, file, bytes);
     let mut rows = Vec::new(alloc);
     'pieces: while let Some(piece) = next_piece(file, &mut lines) {
-        loading.gather(alloc, &mut rows, piece)?;
+        loading.load_and_gather(alloc, &mut rows, piece)?;
     }
     let items = loading.into_items();
     Ok(Gathered { items, rows })
@@ -107,7 +107,7 @@ fn checked_items(
     let mut loading = Loading::new(alloc, file, bytes);
     let mut keys = Extents::new(alloc, file);
     'pieces: while let Some(piece) = next_piece(file, &mut lines) {
-        loading.check(alloc, &mut keys, piece)?;
+        loading.load_and_check(alloc, &mut keys, piece)?;
     }
     Ok(loading.into_items())
 }

@@ -10,11 +10,11 @@ ghost use Rattle.release_rows.specs.Keys.{row_end};
 
 use crate::brief::Brief;
 use crate::loaded_row::LoadedRow;
-use crate::row_key::{has_spans, key_text};
+use crate::row_key::{has_spans, key_names_text};
 use crate::sort_key::SortKey;
 use source_rows::{
-    FieldsCache, RowRef, RowStop, read_point_values_with_cache, read_row_ref, rows_are_ok,
-    rows_are_read,
+    FieldsCache, RowRef, RowStop, possible_rows_are_readable, read_point_values_with_cache,
+    read_row_ref, rows_are_read,
 };
 use std::alloc::Global;
 use ucd_facts::SourceFile;
@@ -58,7 +58,7 @@ fn loaded_row_of(alloc: Global, file: SourceFile, row: RowRef<'_>) -> Result<Loa
     let (code, last) = row_extent(file, &row);
     let (_, reach) = row_points(&row);
     let brief = Brief::of_row_ref(&row);
-    let names = key_text(alloc, file, row)?;
+    let names = key_names_text(alloc, file, row)?;
     Ok(LoadedRow {
         place: SortKey { names, code },
         last,
@@ -72,7 +72,7 @@ fn load_other_row(alloc: Global, file: SourceFile, content: &[u8]) -> Result<Loa
     ensures { EntersAs file result (row_or_fault file content.now) }
 {
     rows_are_read();
-    rows_are_ok();
+    possible_rows_are_readable();
     match read_row_ref(file, content) {
         Ok(row) => loaded_row_of(alloc, file, row),
         Err(fault) => Err(RowStop::Fault(fault)),

@@ -47,7 +47,7 @@ pub struct Loading<'a> {
 }
 
 /// The first code point of the last row, with one more row, if there is one.
-fn start_with(before: Option<u32>, entry: &Option<LoadedRow>) -> Option<u32>
+fn last_row_start(before: Option<u32>, entry: &Option<LoadedRow>) -> Option<u32>
     ensures { result ≡ start_of_entry before entry.now }
 {
     match entry {
@@ -113,7 +113,7 @@ impl<'a> Loading<'a> {
             end: 0,
             before: None,
             lines: 0,
-            tail: FieldsCache::of_letter(),
+            tail: FieldsCache::with_letter_tail(),
         }
     }
 
@@ -146,7 +146,7 @@ impl<'a> Loading<'a> {
     {
         let tag = content_tag(self.file, content_in(self.text, stored));
         let item = entry_of_item(stored, tag, entry, self.before);
-        self.before = start_with(self.before, entry);
+        self.before = last_row_start(self.before, entry);
         self.end += stored.len + ending_len(stored.ending);
         self.lines += u32::from(stored.lines);
         self.items.push(item)?;
@@ -187,7 +187,7 @@ impl<'a> Loading<'a> {
     ///
     /// - `Fault { line, rule }`: the piece breaks a rule by itself.
     /// - `Memory`: memory ran out.
-    pub fn gather(
+    pub fn load_and_gather(
         &mut self,
         alloc: Global,
         rows: &mut Vec<KeyedExtent>,
@@ -215,7 +215,7 @@ impl<'a> Loading<'a> {
     /// - `Fault { line, rule }`: the piece breaks a rule: the row's own come first, then K1, K4 and K5. The line is
     ///   counted from 1.
     /// - `Memory`: memory ran out.
-    pub fn check(
+    pub fn load_and_check(
         &mut self,
         alloc: Global,
         keys: &mut Extents,

@@ -26,7 +26,7 @@ fn begins_at(runs: &[NamelessSpan], code: u32) -> bool
 }
 
 /// Whether a run has a code point from `code` to `last`.
-fn reaches(runs: &[NamelessSpan], code: u32, last: u32) -> bool
+fn some_run_meets(runs: &[NamelessSpan], code: u32, last: u32) -> bool
     ensures { result ≡ list_any (λ run. nat_le code run.last && nat_le run.first last) runs.now }
 {
     runs.iter().any(|run| code <= run.last && run.first <= last)
@@ -42,7 +42,7 @@ pub fn nameless_conflict(runs: &[NamelessSpan], place: &SortKey, last: u32) -> O
     if begins_at(runs, place.code) {
         return Some(Conflict::K1);
     }
-    if reaches(runs, place.code, last) {
+    if some_run_meets(runs, place.code, last) {
         return Some(Conflict::K4);
     }
     None

@@ -13,7 +13,7 @@ ghost use Rattle.release_rows.specs.StoredItems.{IsStored, stored_at};
 use crate::hash::{content_hash, group_hash};
 use crate::stored_item::{StoredItem, content_in};
 use part_list::{Entries, PartList, SeenNumbers};
-use source_rows::{content_group, contents_have_keys};
+use source_rows::{content_section, contents_have_keys};
 use std::alloc::Global;
 use ucd_facts::SourceFile;
 
@@ -37,7 +37,7 @@ pub fn note_hashes(seen_hashes: &mut SeenNumbers, file: SourceFile, code: u32, c
 {
     contents_have_keys();
     if !seen_hashes.are_unknown() {
-        seen_hashes.put(group_hash(content_group(file, content)));
+        seen_hashes.put(group_hash(content_section(file, content)));
         seen_hashes.put(content_hash(file, code, content));
     }
 }

@@ -8,12 +8,12 @@ ghost use Rattle.release_rows.specs.Operations.{row_spans, spans_of};
 
 use crate::stored_item::StoredItem;
 use part_list::Entry;
-use source_rows::{Key, rows_are_ok, rows_are_read};
+use source_rows::{Key, possible_rows_are_readable, rows_are_read};
 use std::alloc::Global;
 use ucd_facts::{Memory, Point, Row, SourceFile, Span, Spans};
 
 /// The code point of a key, as a number; 0 if it has none.
-pub fn code_of(key: &Key) -> u32
+pub fn code_or_zero(key: &Key) -> u32
     ensures { result ≡ code_number key.now.code }
 {
     match key.code {
@@ -68,7 +68,7 @@ pub fn entry_spans(
         → IfOk result (λ spans. spans ≡ spans_of (stored_at file text entry.now).row) }
 {
     rows_are_read();
-    rows_are_ok();
+    possible_rows_are_readable();
     if !has_code(file) {
         return Ok(Spans::new(alloc));
     }

@@ -16,7 +16,7 @@ use ucd_facts::SourceFile;
 use ucd_lines::is_trivia;
 
 /// Whether a fault is that of the second line of a range.
-fn is_faulty_last(file: SourceFile, piece: RowLines<'_>, fault: RowFault) -> bool
+fn is_last_line_fault(file: SourceFile, piece: RowLines<'_>, fault: RowFault) -> bool
     ensures { result ≡ faulty_last file (piece_of piece.entry) fault }
 {
     if !matches!(fault, RowFault::G04) || piece.last.is_none() {
@@ -35,7 +35,7 @@ fn stop_at(file: SourceFile, line: u32, piece: RowLines<'_>, fault: RowFault) ->
     }) }
 {
     let rule = LoadRule::Row(fault);
-    if is_faulty_last(file, piece, fault) {
+    if is_last_line_fault(file, piece, fault) {
         return LoadStop::Fault {
             line: line + 1,
             rule,

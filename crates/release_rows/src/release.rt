@@ -226,7 +226,7 @@ impl Release {
     }
 
     /// What is current is what a release keeps: nine files, of which each is sound.
-    pub fn is_kept(&self)
+    pub fn current_files_are_kept(&self)
         ensures { AllAreKept self.now.current }
     {
         let _files = &self.files;

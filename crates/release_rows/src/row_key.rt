@@ -72,7 +72,7 @@ pub fn has_spans(file: SourceFile) -> bool
 
 /// The last code point that no other row may have: for a row whose span may not overlap, its last one; otherwise its
 /// first.
-pub fn row_end(file: SourceFile, row: &Row) -> u32
+pub fn unshared_end(file: SourceFile, row: &Row) -> u32
     ensures end { result ≡ row_end file row.now }
     ensures ordered { (row_span row.now).lo ≤ result }
 {
@@ -118,22 +118,22 @@ fn first_names(alloc: Global, mut names: Fields<'_>, count: usize) -> Result<Vec
 /// The names in the key of a row, with `;` between them.
 ///
 /// - `Memory`: memory ran out.
-pub fn key_text(alloc: Global, file: SourceFile, row: RowRef<'_>) -> Result<Vec<u8>, Memory>
+pub fn key_names_text(alloc: Global, file: SourceFile, row: RowRef<'_>) -> Result<Vec<u8>, Memory>
     requires { RowOk file (row_in row) }
     ensures { IfOk result (λ text. names_of text.items ≡ key_names file (row_in row.entry)) }
 {
     match row {
-        RowRef::Value(text) => Ok(value_text(alloc, file, text.value)?),
+        RowRef::Value(text) => Ok(value_names_text(alloc, file, text.value)?),
         RowRef::Fold(text) => Ok(Vec::from_slice(alloc, &[text.status.letter()])?),
         RowRef::Casing(text) => conditions_text(alloc, text.conditions),
         RowRef::Alias(names) => Ok(first_names(alloc, names, alias_count(file))?),
-        RowRef::Missing(text) => missing_text(alloc, text.span.hi),
+        RowRef::Missing(text) => missing_names_text(alloc, text.span.hi),
         RowRef::Unit(_) | RowRef::Exclusion(_) => Ok(Vec::new(alloc)),
     }
 }
 
 /// The names in the key of a missing row whose span ends with this code point, with `;` between them.
-fn missing_text(alloc: Global, last: Point) -> Result<Vec<u8>, Memory>
+fn missing_names_text(alloc: Global, last: Point) -> Result<Vec<u8>, Memory>
     ensures { IfOk result (λ text. names_of text.items ≡ missing_names last) }
 {
     let mut digits = Text::new(alloc);
@@ -154,7 +154,7 @@ fn conditions_text(alloc: Global, conditions: Conditions<'_>) -> Result<Vec<u8>,
 /// The value of a row of PropList.txt, and no name in the other files.
 ///
 /// - `AllocError`: memory ran out.
-fn value_text(alloc: Global, file: SourceFile, value: &[u8]) -> Result<Vec<u8>, AllocError>
+fn value_names_text(alloc: Global, file: SourceFile, value: &[u8]) -> Result<Vec<u8>, AllocError>
     requires { is_name value.now ≡ true }
     ensures { IfOk result (λ text. names_of text.items ≡ value_names file value.now) }
 {

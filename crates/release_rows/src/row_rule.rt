@@ -15,7 +15,7 @@ use crate::loaded_row::LoadedRow;
 use ucd_facts::{Memory, SourceFile};
 
 /// Whether a code point is less than the first one of the row before, in a file where that is a fault.
-fn is_back(file: SourceFile, before: Option<u32>, code: u32) -> bool
+fn breaks_ascent(file: SourceFile, before: Option<u32>, code: u32) -> bool
     ensures { result ≡ is_back file before code }
 {
     match (file, before) {
@@ -54,7 +54,7 @@ pub fn take_row(
     let Some(LoadedRow { place, last, .. }) = entry else {
         return Ok(None);
     };
-    let back = is_back(file, before, place.code);
+    let back = breaks_ascent(file, before, place.code);
     let conflict = keys.take(place, last)?;
     Ok(rule_by(conflict, back))
 }

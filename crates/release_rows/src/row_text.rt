@@ -12,8 +12,8 @@ use crate::brief::Brief;
 use crate::stored_item::StoredItem;
 use part_list::Entry;
 use source_rows::{
-    PointValues, RowRef, ValueText, Valued, has_values, read_point_values, read_row_ref,
-    read_valued, rows_are_ok, rows_are_read,
+    PointValues, RowRef, ValueText, Valued, has_values, possible_rows_are_readable,
+    read_point_values, read_row_ref, read_valued, rows_are_read,
 };
 use std::alloc::Global;
 use std::marker::Model;
@@ -104,7 +104,7 @@ impl<'a> RowText<'a> {
         ensures { IfSome result (λ given. ShowsGiven (Some given) self.now) }
     {
         rows_are_read();
-        rows_are_ok();
+        possible_rows_are_readable();
         self.brief.values(Point::new(self.first)?)
     }
 
@@ -114,7 +114,7 @@ impl<'a> RowText<'a> {
         ensures { ShowsGiven result self.now }
     {
         rows_are_read();
-        rows_are_ok();
+        possible_rows_are_readable();
         if let Some(given) = self.kept_values() {
             return Some(given);
         }
@@ -133,7 +133,7 @@ impl<'a> RowText<'a> {
         ensures { ShowsValued result self.now }
     {
         rows_are_read();
-        rows_are_ok();
+        possible_rows_are_readable();
         if !has_values(self.file) {
             return None;
         }
@@ -156,7 +156,7 @@ impl<'a> RowText<'a> {
 
     /// The code points and the value of a missing row of Scripts.txt or WordBreakProperty.txt, as they stand there;
     /// `None` for every other row.
-    pub fn missing(&self) -> Option<ValueText<'a>>
+    pub fn missing_row_value(&self) -> Option<ValueText<'a>>
         ensures { ShowsMissing result self.now }
     {
         match self.valued() {

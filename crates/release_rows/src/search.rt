@@ -7,12 +7,12 @@ ghost use Rattle.release_rows.specs.Tags.{falls_short, misses_tag, tag_fits, tag
 
 use crate::row_key::has_spans;
 use crate::stored_item::{StoredItem, content_in};
-use crate::tag::{tells_group, tells_key, tells_order};
+use crate::tag::{tags_tell_group, tags_tell_key, tags_tell_order};
 use part_list::{Entry, Reach, Seek};
-use source_rows::{compare_names, content_group};
+use source_rows::{compare_names, content_section};
 use std::marker::Model;
 use ucd_facts::{SourceFile, Text};
-use ucd_lines::{is_trivia, takes_missing};
+use ucd_lines::{has_missing_rows, is_trivia};
 
 /// What an entry is tested for.
 #[derive(Clone, Copy)]
@@ -44,7 +44,7 @@ fn misses_tag(told: bool, tag: u32, reach: Reach) -> bool
 }
 
 /// Whether no code point within the bounds is greater than this one, and each tag is less, if tags tell.
-fn falls_short(told: bool, code: u32, tag: u32, reach: Reach) -> bool
+fn has_no_follower(told: bool, code: u32, tag: u32, reach: Reach) -> bool
     ensures { result ≡ falls_short told code tag reach }
 {
     told && reach.most <= code && reach.most_tag < tag
@@ -107,23 +107,23 @@ impl<'a> Search<'a> {
     }
 
     /// Whether the entry has the key that is looked for.
-    fn starts_alike(&self, entry: &Entry<StoredItem>) -> bool
+    fn has_same_key(&self, entry: &Entry<StoredItem>) -> bool
         ensures { result ≡ starts_alike self.now entry.now }
     {
         self.code == entry.code
-            && tag_fits(tells_key(self.file), self.tag, entry.tag)
+            && tag_fits(tags_tell_key(self.file), self.tag, entry.tag)
             && self.has_names(content_in(self.text, entry.item))
     }
 
     /// Whether it is a missing row, in a file that has such rows.
-    pub fn is_missing(&self) -> bool
+    pub fn seeks_missing_row(&self) -> bool
         ensures { result ≡ (takes_missing self.now.file && self.now.missing) }
     {
-        takes_missing(self.file) && self.missing
+        has_missing_rows(self.file) && self.missing
     }
 
     /// Whether no other row may have the code points that are looked for. A missing row shares its span.
-    fn forbids(&self) -> bool
+    fn forbids_overlap(&self) -> bool
         ensures { result ≡ forbids self.now }
     {
         has_spans(self.file) && !self.missing
@@ -133,39 +133,42 @@ impl<'a> Search<'a> {
     fn meets_another(&self, entry: &Entry<StoredItem>) -> bool
         ensures { result ≡ meets_another self.now entry.now }
     {
-        self.forbids()
+        self.forbids_overlap()
             && self.code != entry.code
             && self.code <= entry.last
             && entry.code <= self.last
-            && tag_fits(tells_key(self.file), self.tag, entry.tag)
+            && tag_fits(tags_tell_key(self.file), self.tag, entry.tag)
             && self.has_names(content_in(self.text, entry.item))
     }
 
     /// Whether the entry is of the group that is looked for.
-    fn is_alike(&self, entry: &Entry<StoredItem>) -> bool
+    fn has_same_group(&self, entry: &Entry<StoredItem>) -> bool
         ensures { result ≡ is_alike self.now entry.now }
     {
-        if !tag_fits(tells_group(self.file), self.tag, entry.tag) {
+        if !tag_fits(tags_tell_group(self.file), self.tag, entry.tag) {
             return false;
         }
         let content = content_in(self.text, entry.item);
-        !is_trivia(self.file, content) && self.group == content_group(self.file, content)
+        !is_trivia(self.file, content) && self.group == content_section(self.file, content)
     }
 
     /// Whether the tag of the entry leaves open that it has a greater key.
-    fn tag_rises(&self, entry: &Entry<StoredItem>) -> bool
+    fn may_have_greater_key(&self, entry: &Entry<StoredItem>) -> bool
         ensures { result ≡ tag_rises
             (tells_order self.now.file) self.now.code entry.now.code self.now.tag
             entry.now.tag }
     {
-        !tells_order(self.file) || self.code < entry.code || self.tag <= entry.tag
+        !tags_tell_order(self.file) || self.code < entry.code || self.tag <= entry.tag
     }
 
     /// Whether the entry is of the group that is looked for, and has a greater key.
-    fn comes_behind(&self, entry: &Entry<StoredItem>) -> bool
+    fn follows_in_group(&self, entry: &Entry<StoredItem>) -> bool
         ensures { result ≡ comes_behind self.now entry.now }
     {
-        if entry.code < self.code || !self.tag_rises(entry) || !self.is_alike(entry) {
+        if entry.code < self.code
+            || !self.may_have_greater_key(entry)
+            || !self.has_same_group(entry)
+        {
             return false;
         }
         let content = content_in(self.text, entry.item);
@@ -181,10 +184,10 @@ impl<'a> Seek<StoredItem> for Search<'a> {
 
     fn passes(&self, entry: &Entry<StoredItem>) -> bool {
         match self.test {
-            Test::SameKey => self.starts_alike(entry),
+            Test::SameKey => self.has_same_key(entry),
             Test::OverlapsAnother => self.meets_another(entry),
-            Test::Follows => self.comes_behind(entry),
-            Test::SameGroup => self.is_alike(entry),
+            Test::Follows => self.follows_in_group(entry),
+            Test::SameGroup => self.has_same_group(entry),
             Test::Any => true,
         }
     }
@@ -195,28 +198,28 @@ impl<'a> Seek<StoredItem> for Search<'a> {
             Test::SameKey => {
                 self.code < reach.least
                     || reach.most < self.code
-                    || misses_tag(tells_key(self.file), tag, reach)
+                    || misses_tag(tags_tell_key(self.file), tag, reach)
             }
             Test::OverlapsAnother => {
-                !self.forbids()
+                !self.forbids_overlap()
                     || self.last < reach.least
                     || reach.most < self.code
-                    || misses_tag(tells_key(self.file), tag, reach)
+                    || misses_tag(tags_tell_key(self.file), tag, reach)
             }
             Test::Follows => {
                 reach.most < self.code
-                    || misses_tag(tells_group(self.file), tag, reach)
-                    || falls_short(tells_order(self.file), self.code, tag, reach)
+                    || misses_tag(tags_tell_group(self.file), tag, reach)
+                    || has_no_follower(tags_tell_order(self.file), self.code, tag, reach)
             }
-            Test::SameGroup => misses_tag(tells_group(self.file), tag, reach),
+            Test::SameGroup => misses_tag(tags_tell_group(self.file), tag, reach),
             Test::Any => false,
         }
     }
 
     fn tag(&self) -> Option<u32> {
         let told = match self.test {
-            Test::SameKey | Test::OverlapsAnother => tells_key(self.file),
-            Test::Follows | Test::SameGroup => tells_group(self.file),
+            Test::SameKey | Test::OverlapsAnother => tags_tell_key(self.file),
+            Test::Follows | Test::SameGroup => tags_tell_group(self.file),
             Test::Any => false,
         };
         told.then_some(self.tag)

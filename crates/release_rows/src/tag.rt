@@ -4,12 +4,12 @@ ghost use Rattle.std.specs.Prelude.{◌≡◌, ◌≤◌};
 ghost use Rattle.ucd_points.specs.Fields.{field};
 ghost use Rattle.release_rows.specs.Tags.{behind_first, content_tag, digit, end_of, first_digit, key_tag, number, tells_group, tells_key, tells_order};
 
-use source_rows::content_group;
+use source_rows::content_section;
 use ucd_facts::{SourceFile, Text};
 use ucd_lines::{Fields, fields};
 
 /// What a byte is worth: 1 to 75 from `0` to `z`, 0 below them and 76 above.
-fn digit(byte: u8) -> u32
+fn byte_rank(byte: u8) -> u32
     ensures { result ≡ digit byte }
 {
     match byte {
@@ -20,13 +20,13 @@ fn digit(byte: u8) -> u32
 }
 
 /// What the first byte is worth; 0 if there is none.
-fn first_digit(text: &[u8]) -> u32
+fn first_byte_rank(text: &[u8]) -> u32
     ensures digit { result ≡ first_digit text.now }
     ensures few { result ≤ 76 }
 {
     match text {
         [] => 0,
-        [byte, ..] => digit(*byte),
+        [byte, ..] => byte_rank(*byte),
     }
 }
 
@@ -48,11 +48,11 @@ pub fn order_number(text: &[u8]) -> u32
     let third = behind_first(second);
     let fourth = behind_first(third);
     let fifth = behind_first(fourth);
-    first_digit(text) * 35_153_041
-        + first_digit(second) * 456_533
-        + first_digit(third) * 5_929
-        + first_digit(fourth) * 77
-        + first_digit(fifth)
+    first_byte_rank(text) * 35_153_041
+        + first_byte_rank(second) * 456_533
+        + first_byte_rank(third) * 5_929
+        + first_byte_rank(fourth) * 77
+        + first_byte_rank(fifth)
 }
 
 /// The last five bytes of a text; all if there are no more.
@@ -106,7 +106,7 @@ pub fn content_tag(file: SourceFile, content: &[u8]) -> u32
 {
     match file {
         SourceFile::PropList | SourceFile::Scripts | SourceFile::WordBreakProperty => {
-            order_number(last_five_bytes(content_group(file, content)))
+            order_number(last_five_bytes(content_section(file, content)))
         }
         SourceFile::SpecialCasing => order_number(field_at(fields(file, content), 4)),
         SourceFile::PropertyAliases => order_number(field_at(fields(file, content), 0)),
@@ -128,7 +128,7 @@ pub fn key_tag(file: SourceFile, names: &[Text]) -> u32
 }
 
 /// Whether rows of one key have one tag.
-pub fn tells_key(file: SourceFile) -> bool
+pub fn tags_tell_key(file: SourceFile) -> bool
     ensures { result ≡ tells_key file }
 {
     matches!(
@@ -141,7 +141,7 @@ pub fn tells_key(file: SourceFile) -> bool
 }
 
 /// Whether rows of one group have one tag.
-pub fn tells_group(file: SourceFile) -> bool
+pub fn tags_tell_group(file: SourceFile) -> bool
     ensures { result ≡ tells_group file }
 {
     matches!(
@@ -151,7 +151,7 @@ pub fn tells_group(file: SourceFile) -> bool
 }
 
 /// Whether tags ascend with the keys of a group.
-pub fn tells_order(file: SourceFile) -> bool
+pub fn tags_tell_order(file: SourceFile) -> bool
     ensures { result ≡ tells_order file }
 {
     matches!(

@@ -13,7 +13,7 @@ use crate::row_text::RowText;
 use crate::span_order::SpanOrder;
 use crate::stored_item::{StoredItem, content_in};
 use part_list::{Entry, PartList, Passing};
-use source_rows::{rows_are_ok, rows_are_read};
+use source_rows::{possible_rows_are_readable, rows_are_read};
 use std::alloc::Global;
 use ucd_facts::{Memory, SourceFile, Span};
 use ucd_lines::is_trivia;
@@ -63,7 +63,7 @@ fn passing_rows<'a>(
 /// part whose bounds meet no span.
 ///
 /// - `Memory`: memory ran out.
-pub fn touching_rows<'a>(
+pub fn next_rows_touching<'a>(
     alloc: Global,
     file: SourceFile,
     text: &'a [u8],
@@ -76,7 +76,7 @@ pub fn touching_rows<'a>(
         (rows_in (map (stored_at file text.now) (next_in items.now)))) }
 {
     rows_are_read();
-    rows_are_ok();
+    possible_rows_are_readable();
     if !has_code(file) {
         return Ok(Vec::new(alloc));
     }

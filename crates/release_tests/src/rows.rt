@@ -415,9 +415,9 @@ const IN_TURN: [(&[u8], Result<(u8, usize), RowFault>); 9] = [
 
 #[test]
 fn lines_in_turn(rt: HostRuntime) {
-    let mut above = FieldsCache::of_letter();
+    let mut above = FieldsCache::with_letter_tail();
     for (line, expected) in &IN_TURN {
-        let given = match read_below(line, &mut above) {
+        let given = match read_point_values_with_cache(line, &mut above) {
             Ok(PointValues { values, .. }) => {
                 Ok((values.class, values.decomposition.mapping.len()))
             }

@@ -94,13 +94,13 @@ fn write_and_summarise<S: Shelf, K: Sink>(plan: Plan, shelf: &mut S, out: &mut K
         return Status::WriteFault;
     }
     match out.put(summary.as_slice()) {
-        Ok(()) => status_if(done),
+        Ok(()) => done_or_clean(done),
         Err(_) => Status::WriteFault,
     }
 }
 
 /// How a run ended that wrote all files: whether something was refused or is broken.
-fn status_if(done: bool) -> Status
+fn done_or_clean(done: bool) -> Status
     ensures { result ≡ status_if done }
 {
     if done { Status::Done } else { Status::Clean }

@@ -3,7 +3,7 @@
 ghost use Rattle.std.specs.Prelude.{◌≡◌, ◌++◌, OnOk};
 ghost use Rattle.run_inputs.specs.GroupLines.{accepted_line, key_rule_code, refusal_text, refused_line};
 
-use crate::refusal_lines::bad_code;
+use crate::refusal_lines::validity_rule_code;
 use edit_session::Refused;
 use release_rows::KeyRule;
 use std::alloc::Global;
@@ -46,7 +46,7 @@ fn put_refusal(alloc: Global, text: &mut Text, why: Refused) -> Result<(), Memor
             put_decimal(alloc, op as usize, text)
         }
         Refused::Valid { rule, point } => {
-            text.append(bad_code(rule))?;
+            text.append(validity_rule_code(rule))?;
             text.append(b" point ")?;
             put_hex(point, text)
         }

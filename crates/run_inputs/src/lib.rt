@@ -21,7 +21,8 @@ pub use outputs::{put_derived, put_sources};
 pub use paths::{put_source_paths, source_paths};
 pub use refusal::{FileRule, FolderRefusal, FolderStop, ScriptRefusal};
 pub use refusal_lines::{
-    bad_code, file_rule_code, load_rule_code, point_refusal_line, refusal_line, row_rule_code,
+    file_rule_code, load_rule_code, point_refusal_line, refusal_line, row_rule_code,
+    validity_rule_code,
 };
 pub use refusing::{folder_line, script_line};
 pub use script::read_script;

@@ -46,12 +46,12 @@ pub fn point_refusal_line(alloc: Global, folder: &[u8], broken: Broken) -> Resul
     text.append(folder)?;
     text.append(b" point ")?;
     put_hex(broken.point, &mut text)?;
-    put_rule_code(&mut text, bad_code(broken.rule))?;
+    put_rule_code(&mut text, validity_rule_code(broken.rule))?;
     Ok(text)
 }
 
 /// The code of a rule of a valid release.
-pub fn bad_code(rule: Bad) -> &'static [u8]
+pub fn validity_rule_code(rule: Bad) -> &'static [u8]
     ensures { result.now ≡ bad_code rule }
 {
     match rule {

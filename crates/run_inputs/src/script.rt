@@ -11,7 +11,7 @@ use crate::refusal::ScriptRefusal;
 use crate::refusing::script_line;
 use crate::second::second_file;
 use run_endings::Stop;
-use script_lines::{Commands, ScriptStop, commands, groups_are_ready};
+use script_lines::{Commands, ScriptStop, commands, groups_are_well_formed};
 use std::alloc::Global;
 
 /// The commands of the script at this path, given what is held of it.
@@ -24,7 +24,7 @@ pub fn read_script(alloc: Global, path: &[u8], held: Option<&[u8]>) -> Result<Co
         (script_told path.now (option_map (λ bytes. bytes.now) held.entry)) }
     ensures commands { IfOk result (All IsWellFormed) }
 {
-    groups_are_ready();
+    groups_are_well_formed();
     let bytes = match second_file(held) {
         Ok(bytes) => bytes,
         Err(rule) => return Err(script_stop(alloc, path, ScriptRefusal::Whole(rule))),

@@ -7,7 +7,7 @@ use Rattle.std.proofs.lemmas.List.{length_push}
 use Rattle.ucd_points.specs.Lines.{items_of}
 use Rattle.source_rows.specs.Faults.{row_or_fault, SourceFile, Row}
 use Rattle.source_rows.specs.KeyGrammar.{key_or_fault}
-use Rattle.source_rows.specs.Laws.{RowsAreOk, RowsAreRead}
+use Rattle.source_rows.specs.Laws.{PossibleRowsAreReadable, RowsAreRead}
 use Rattle.source_rows.specs.declared.fault.RowFault.{RowFault}
 use Rattle.source_rows.specs.declared.key.Key.{Key}
 use Rattle.release_rows.specs.Operations.{IsOp}
@@ -23,7 +23,7 @@ use Rattle.script_lines.specs.declared.script.Script.{Script}
 
 -- ---- operations
 
-row_ready : RowsAreRead → RowsAreOk → (n : ℕ) (put : Put) (file : SourceFile) (text : List ℕ) (next : Option (List ℕ)) (r : Result Row RowFault) → row_or_fault file (row_text text next) ≡ r → IfOk (row_op_by n put file text next r) IsOp
+row_ready : RowsAreRead → PossibleRowsAreReadable → (n : ℕ) (put : Put) (file : SourceFile) (text : List ℕ) (next : Option (List ℕ)) (r : Result Row RowFault) → row_or_fault file (row_text text next) ≡ r → IfOk (row_op_by n put file text next r) IsOp
 row_ready read ok n Add file text next (Ok row) e = ((ok file row).1 (row_text text next, (read file (row_text text next) row).0 e), e)
 row_ready read ok n Change file text next (Ok row) e = ((ok file row).1 (row_text text next, (read file (row_text text next) row).0 e), e)
 row_ready read ok n put file text next (Err fault) e = tt
@@ -78,7 +78,7 @@ operated_ready : (n : ℕ) (script : Script) (found : Result Op ScriptFault) (fu
 operated_ready n script found true e ready is_op = rw e tt
 operated_ready n script found false e ready is_op = rw e (found_ready n script found ready e is_op)
 
-step_ready : RowsAreRead → RowsAreOk → (n : ℕ) (script : Script) (next : Option (List ℕ)) (what : Said) → ReadyScript script → IfOk (step_by n script next what) ReadyScript
+step_ready : RowsAreRead → PossibleRowsAreReadable → (n : ℕ) (script : Script) (next : Option (List ℕ)) (what : Said) → ReadyScript script → IfOk (step_by n script next what) ReadyScript
 step_ready read ok n script next nothing ready = ready
 step_ready read ok n script next begins ready = begun_ready n script script.group ready.commands
 step_ready read ok n script next ends ready = ended_ready n script script.group ready.commands ready.group
@@ -95,7 +95,7 @@ then_ready : (found : Result Script ScriptFault) (more : Script → Result Scrip
 then_ready (Ok script) more ready go = go script ready
 then_ready (Err fault) more ready go = tt
 
-steps_ready : RowsAreRead → RowsAreOk → (n : ℕ) (script : Script) (pieces : List ScriptPiece) → ReadyScript script → IfOk (steps n script pieces) ReadyScript
+steps_ready : RowsAreRead → PossibleRowsAreReadable → (n : ℕ) (script : Script) (pieces : List ScriptPiece) → ReadyScript script → IfOk (steps n script pieces) ReadyScript
 steps_ready read ok n script [] ready = ready
 steps_ready read ok n script (piece ∷ pieces) ready =
     then_ready (step n script piece) (λ next. steps (n + piece_lines piece) next pieces) (step_ready read ok n script piece.next (said piece.line) ready)
@@ -109,6 +109,6 @@ closed_ready : (found : Result Script ScriptFault) → IfOk found ReadyScript �
 closed_ready (Ok script) ready = commands_ready script.commands script.group ready.commands
 closed_ready (Err fault) ready = tt
 
-pub groups_are_ready : RowsAreRead → RowsAreOk → GroupsAreWellFormed
+pub groups_are_ready : RowsAreRead → PossibleRowsAreReadable → GroupsAreWellFormed
 unfolding script_from
 groups_are_ready read ok n bytes = closed_ready (steps n empty_script (script_pieces (items_of bytes))) (steps_ready read ok n empty_script (script_pieces (items_of bytes)) (record { commands = All-nil IsWellFormed; group = tt }))

@@ -4,7 +4,7 @@ ghost use Rattle.script_lines.specs.Faults.{FaultsAreFirst};
 ghost use Rattle.script_lines.specs.Grammar.{ScriptsAreRead};
 ghost use Rattle.script_lines.specs.Groups.{GroupsAreWellFormed};
 
-use source_rows::{keys_are_read, rows_are_ok, rows_are_read};
+use source_rows::{keys_are_read, possible_rows_are_readable, rows_are_read};
 
 /// A script has commands exactly if its lines are those of a script with these commands: lines that are passed over,
 /// operations, and groups of at most 4,096 operations between `begin` and `end`.
@@ -23,9 +23,9 @@ pub fn faults_are_first()
 
 /// The groups of a script without a fault can be carried out: each operation has a row that its file can have, with
 /// bytes that are read as it, and a group has at most 4,096 operations.
-pub fn groups_are_ready()
+pub fn groups_are_well_formed()
     ensures { GroupsAreWellFormed }
 {
     rows_are_read();
-    rows_are_ok();
+    possible_rows_are_readable();
 }

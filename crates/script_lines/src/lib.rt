@@ -13,6 +13,6 @@ mod source_path;
 mod stop;
 
 pub use command::{Command, Commands, What};
-pub use laws::{faults_are_first, groups_are_ready, scripts_are_read};
+pub use laws::{faults_are_first, groups_are_well_formed, scripts_are_read};
 pub use reading::{commands, commands_from};
 pub use stop::{ScriptRule, ScriptStop};

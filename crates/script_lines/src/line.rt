@@ -73,7 +73,7 @@ fn behind_word<'a>(word: &[u8], content: &'a [u8]) -> Option<&'a [u8]>
 }
 
 /// What a line says that puts a row or takes one out.
-fn order_line(content: &[u8]) -> Line<'_>
+fn operation_line(content: &[u8]) -> Line<'_>
     ensures { said_by result ≡ orders content.now }
 {
     if let Some(text) = behind_word(b"add ", content) {
@@ -89,12 +89,12 @@ fn order_line(content: &[u8]) -> Line<'_>
 }
 
 /// What a line says that is neither skipped, `begin` nor `end`.
-fn word_line(content: &[u8]) -> Line<'_>
+fn question_or_operation_line(content: &[u8]) -> Line<'_>
     ensures { said_by result ≡ ordered content.now }
 {
     match behind_word(b"set ", content) {
         Some(text) => Line::Set(text),
-        None => order_line(content),
+        None => operation_line(content),
     }
 }
 
@@ -111,11 +111,11 @@ pub fn line_of(content: &[u8]) -> Line<'_>
     if content == b"end".as_slice() {
         return Line::End;
     }
-    word_line(content)
+    question_or_operation_line(content)
 }
 
 /// LINE, of a line `last LINE`; `None` for other lines.
-pub fn last_text(content: &[u8]) -> Option<&[u8]>
+pub fn text_behind_last(content: &[u8]) -> Option<&[u8]>
     ensures { MatchOption result (last_text content.now ≡ None)
         (λ text. last_text content.now ≡ Some text.now) }
 {

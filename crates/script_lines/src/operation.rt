@@ -5,7 +5,7 @@ ghost use Rattle.std.specs.Option.{option_map};
 ghost use Rattle.script_lines.specs.Scripts.{OpAs, StopsAs, fault_line, is_last_fault, key_op, op_of, row_op, row_text};
 ghost use Rattle.script_lines.specs.declared.stop.ScriptRule.TheVariants.{E6};
 
-use crate::line::{Put, last_text};
+use crate::line::{Put, text_behind_last};
 use crate::stop::{ScriptRule, ScriptStop};
 use release_rows::Op;
 use source_rows::{RowFault, RowStop, read_key, read_row, read_row_ref};
@@ -20,7 +20,7 @@ fn row_text(alloc: Global, text: &[u8], next: Option<&[u8]>) -> Result<Text, Mem
     let mut bytes = Text::new(alloc);
     bytes.append(text)?;
     if let Some(next) = next {
-        if let Some(last) = last_text(next) {
+        if let Some(last) = text_behind_last(next) {
             bytes.push(b'\n')?;
             bytes.append(last)?;
         }
@@ -29,13 +29,18 @@ fn row_text(alloc: Global, text: &[u8], next: Option<&[u8]>) -> Result<Text, Mem
 }
 
 /// Whether a fault is that of the second line of a range.
-fn is_last_fault(file: SourceFile, text: &[u8], next: Option<&[u8]>, fault: RowFault) -> bool
+fn is_fault_of_last_line(
+    file: SourceFile,
+    text: &[u8],
+    next: Option<&[u8]>,
+    fault: RowFault,
+) -> bool
     ensures { result ≡ is_last_fault file text.now (option_map (λ n. n.now) next.entry) fault }
 {
     let Some(next) = next else {
         return false;
     };
-    if !matches!(fault, RowFault::G04) || last_text(next).is_none() {
+    if !matches!(fault, RowFault::G04) || text_behind_last(next).is_none() {
         return false;
     }
     matches!(read_row_ref(file, text), Err(RowFault::G09))
@@ -57,7 +62,7 @@ fn row_stop(
     }) }
 {
     let rule = ScriptRule::E6(fault);
-    if is_last_fault(file, text, next, fault) {
+    if is_fault_of_last_line(file, text, next, fault) {
         return ScriptStop::Fault {
             line: line + 1,
             rule,
@@ -104,7 +109,12 @@ pub fn row_op(
 ///
 /// - `Fault`: `E6`, if there is no key, with the first rule that it breaks.
 /// - `Memory`: memory ran out.
-pub fn key_op(alloc: Global, line: u32, file: SourceFile, text: &[u8]) -> Result<Op, ScriptStop>
+pub fn withdraw_op(
+    alloc: Global,
+    line: u32,
+    file: SourceFile,
+    text: &[u8],
+) -> Result<Op, ScriptStop>
     ensures { OpAs result (key_op line file text.now) }
 {
     match read_key(alloc, file, text) {

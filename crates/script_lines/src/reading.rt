@@ -7,7 +7,7 @@ ghost use Rattle.script_lines.specs.Scripts.{CommandsAs, StepsAs, closed_by, pie
 
 use crate::command::Commands;
 use crate::line::{Line, line_of};
-use crate::operation::{key_op, row_op};
+use crate::operation::{row_op, withdraw_op};
 use crate::piece::{Piece, next_piece};
 use crate::script::Script;
 use crate::stop::{ScriptRule, ScriptStop};
@@ -43,7 +43,7 @@ fn take_piece(
             line,
             rule: ScriptRule::E1,
         }),
-        _ if script.is_full() => Err(ScriptStop::Fault {
+        _ if script.is_group_full() => Err(ScriptStop::Fault {
             line,
             rule: ScriptRule::E5,
         }),
@@ -52,7 +52,7 @@ fn take_piece(
             Ok(script.put(alloc, line, op)?)
         }
         Line::Withdraw(file, text) => {
-            let op = key_op(alloc, line, file, text)?;
+            let op = withdraw_op(alloc, line, file, text)?;
             Ok(script.put(alloc, line, op)?)
         }
     }

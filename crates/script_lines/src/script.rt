@@ -108,7 +108,7 @@ impl Script {
     }
 
     /// Whether the open group takes no more operations.
-    pub fn is_full(&self) -> bool
+    pub fn is_group_full(&self) -> bool
         ensures { result ≡ is_full self.now.group }
     {
         match &self.group {

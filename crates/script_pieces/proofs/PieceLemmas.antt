@@ -5,7 +5,7 @@ use Rattle.std.proofs.lemmas.List.{length-append, length-map}
 use Rattle.std.proofs.lemmas.List.Elements.{All-cons, All-nil}
 use Rattle.ucd_points.specs.Lines.{LineItem, item_bytes, items_of, joined}
 use Rattle.ucd_lines.specs.Laws.{AreLines, EndingsAreToldApart, ItemsJoin, NoLineFeedInside, OnlyTheLastIsUnended, lines_behind}
-use Rattle.script_pieces.specs.Pieces.{Cut, FitsBelow, Marked, cut, cut_lines, is_mark, marked_piece, PiecesAreFew, PiecesAreWhole, PiecesFit}
+use Rattle.script_pieces.specs.Pieces.{Cut, FitsBelow, Marked, cut, cut_lines, is_mark, marked_piece, PiecesAreFew, PiecesAreWhole, PieceLineNumbersFit}
 use Rattle.script_pieces.proofs.CutLemmas.{some_bytes}
 
 put_before : (n : ℕ) (line : LineItem) (behind : Cut) (t : Bool)
@@ -42,7 +42,7 @@ marked_fit most n (line ∷ lines) are fits =
     fits_by most n line (cut (n + 1) lines) (is_mark line) (omega (arith, behind, front_within (cut (n + 1) lines) lines (all_lines (n + 1) lines)))
     (marked_fit most (n + 1) lines are.1 behind)
 
-pub pieces_fit : ItemsJoin → NoLineFeedInside → OnlyTheLastIsUnended → EndingsAreToldApart → PiecesFit
+pub pieces_fit : ItemsJoin → NoLineFeedInside → OnlyTheLastIsUnended → EndingsAreToldApart → PieceLineNumbersFit
 pieces_fit join feeds ends told bytes =
     let lines : List LineItem = items_of bytes in
     let same : length (joined lines) ≡ length bytes = ap length (join bytes) in

@@ -13,7 +13,7 @@
 -- pieces bytes            the pieces of a file: what stands before the first mark, which may have no bytes, and a piece for each mark
 -- PiecesAreWhole          marks and pieces together are the bytes of the file, in order
 -- FitsBelow n piece       the number of its first line and its bytes are together at most n
--- PiecesFit               so it is of each piece of a file, with one more than the bytes of the file
+-- PieceLineNumbersFit               so it is of each piece of a file, with one more than the bytes of the file
 -- PiecesAreFew            a file has at most one piece more than bytes
 use Rattle.std.specs.Prelude.{◌≡◌, ◌≤◌, ℕ, ◌+◌, Bool, false, List, [], ◌∷◌, ◌++◌, length, map, Option, Some, None, ◌==◌, if◌then◌else◌, All, flat_map}
 use Rattle.ucd_points.specs.Lines.{LineItem, items_of, joined}
@@ -82,8 +82,8 @@ PiecesAreWhole = (n : ℕ) (bytes : List ℕ) → joined (cut_lines (cut n (item
 abbrev pub FitsBelow : ℕ → Piece → Type 0
 FitsBelow n piece = piece.first_line + length piece.body ≤ n
 
-abbrev pub PiecesFit : Type 0
-PiecesFit = (bytes : List ℕ) → All (FitsBelow (1 + length bytes)) (pieces bytes)
+abbrev pub PieceLineNumbersFit : Type 0
+PieceLineNumbersFit = (bytes : List ℕ) → All (FitsBelow (1 + length bytes)) (pieces bytes)
 
 abbrev pub PiecesAreFew : Type 0
 PiecesAreFew = (bytes : List ℕ) → length (pieces bytes) ≤ 1 + length bytes

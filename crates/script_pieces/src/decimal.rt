@@ -21,7 +21,7 @@ fn written_number(word: &[u8]) -> Option<u32>
     ensures written { MatchOption result ((n : ℕ) → n < 2 ^ 32 → word.now ≢ decimal n)
         (λ n. word.now ≡ decimal n) }
 {
-    if !is_plain(word) {
+    if !has_no_spare_prefix(word) {
         return None;
     }
     let Ok(text) = str::from_utf8(word) else {
@@ -31,7 +31,7 @@ fn written_number(word: &[u8]) -> Option<u32>
 }
 
 /// Whether no `+` stands first, and a first 0 stands alone.
-fn is_plain(word: &[u8]) -> bool
+fn has_no_spare_prefix(word: &[u8]) -> bool
     ensures { result ≡ is_plain word.now }
 {
     match word {

@@ -1,6 +1,6 @@
 //! Laws of pieces: each function here does nothing, and its contract is a law.
 
-ghost use Rattle.script_pieces.specs.Pieces.{PiecesAreFew, PiecesAreWhole, PiecesFit};
+ghost use Rattle.script_pieces.specs.Pieces.{PiecesAreFew, PiecesAreWhole, PieceLineNumbersFit};
 
 use ucd_lines::{
     endings_are_told_apart, items_join, no_line_feed_inside, only_the_last_is_unended,
@@ -15,8 +15,8 @@ pub fn pieces_are_whole()
 
 /// The number of a piece's first line and its bytes are together at most one more than the bytes of the file: so a script of it
 /// can be read with the lines of the file.
-pub fn pieces_fit()
-    ensures { PiecesFit }
+pub fn piece_line_numbers_fit()
+    ensures { PieceLineNumbersFit }
 {
     items_join();
     no_line_feed_inside();

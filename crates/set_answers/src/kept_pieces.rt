@@ -85,7 +85,7 @@ impl KeptPieces {
     /// changed are looked up.
     ///
     /// - `Memory`: memory ran out. None are kept then.
-    pub fn renew<B: Records>(&mut self, alloc: Global, bench: &B) -> Result<bool, Memory>
+    pub fn renew_if_kept<B: Records>(&mut self, alloc: Global, bench: &B) -> Result<bool, Memory>
         requires { AreKept self.old (B.record_of bench.now) }
         ensures kept { AreKept self.new (B.record_of bench.now) }
         ensures some { IfOk result (λ some. some ≡ has_pieces self.old) }

@@ -34,7 +34,7 @@ fn fill_pieces(alloc: Global, kept: &mut KeptPieces, bench: &Bench) -> Result<()
     ensures kept { AreKept kept.new (bench_record bench.now) }
     ensures filled { OnOk result (HasPieces kept.new (bench_record bench.now)) }
 {
-    if kept.renew(alloc, bench)? {
+    if kept.renew_if_kept(alloc, bench)? {
         return Ok(());
     }
     let spans = bench.equal_record_spans(alloc)?;

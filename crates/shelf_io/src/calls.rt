@@ -47,14 +47,14 @@ impl CallPlan {
     }
 
     /// Counts a call that did not fail.
-    pub fn pass(&mut self)
+    pub fn count_success(&mut self)
         ensures { self.new ≡ passed self.old }
     {
         self.made = self.made.saturating_add(1);
     }
 
     /// Counts a call that failed.
-    pub fn fail(&mut self)
+    pub fn count_failure(&mut self)
         ensures counted { self.new ≡ failed self.old }
         ensures faults_never_fall { self.old.faults ≤ self.new.faults }
     {

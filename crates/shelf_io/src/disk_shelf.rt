@@ -68,7 +68,7 @@ impl<S: System> DiskShelf<S> {
 }
 
 /// A path as a text, or `None` if it is not UTF-8, or is the name beside another path.
-fn name_of(path: &[u8]) -> Option<&str>
+fn path_text_unless_beside(path: &[u8]) -> Option<&str>
     ensures { MatchOption result (¬ IsName path.now)
         (λ name. (name.now ≡ path.now) × IsName path.now) }
 {
@@ -101,7 +101,7 @@ fn read_file<S: System>(
         → OnReadFailed result (Rose (S.faults system.old) (S.faults system.new)) }
     ensures faults_never_fall { S.faults system.old ≤ S.faults system.new }
 {
-    let Some(path) = name_of(path) else {
+    let Some(path) = path_text_unless_beside(path) else {
         return Err(ReadStop::Failed);
     };
     match system.open(path) {
@@ -175,13 +175,13 @@ fn write_file<S: System>(system: &mut S, path: &[u8], bytes: &[u8]) -> Result<()
         → OnErr result (Rose (S.faults system.old) (S.faults system.new)) }
     ensures faults_never_fall { S.faults system.old ≤ S.faults system.new }
 {
-    let Some(path) = name_of(path) else {
+    let Some(path) = path_text_unless_beside(path) else {
         return Err(Failed);
     };
     make_folders_of(system, path)?;
     let mut buffer = [0; LONGEST];
     match beside_in(path.as_bytes(), &mut buffer) {
-        Some(beside) => write_beside(system, path, beside, bytes),
+        Some(beside) => write_beside_or_in_place(system, path, beside, bytes),
         None => write_in_place(system, path, bytes),
     }
 }
@@ -190,7 +190,7 @@ fn write_file<S: System>(system: &mut S, path: &[u8], bytes: &[u8]) -> Result<()
 /// replace in this way is written where it stands.
 ///
 /// - `Failed`: a call of the system failed.
-fn write_beside<S: System>(
+fn write_beside_or_in_place<S: System>(
     system: &mut S,
     path: &str,
     beside: &str,

@@ -118,11 +118,11 @@ impl Shelf for MemoryShelf {
                 return Err(ReadStop::Memory);
             };
             self.last_failed = failed;
-            self.reads.fail();
+            self.reads.count_failure();
             return Err(ReadStop::Failed);
         }
         let found = self.files.read(path, most, into)?;
-        self.reads.pass();
+        self.reads.count_success();
         Ok(found)
     }
 
@@ -151,11 +151,11 @@ impl Shelf for MemoryShelf {
         ensures last_failed_stays { self.new.last_failed ≡ self.old.last_failed }
     {
         if self.writes.fails_next() {
-            self.writes.fail();
+            self.writes.count_failure();
             return Err(Failed);
         }
         self.files.put(path, bytes);
-        self.writes.pass();
+        self.writes.count_success();
         Ok(())
     }
 }

@@ -29,7 +29,7 @@ fn standing_at<R: Files>(files: &R, path: &str) -> io::Result<Standing> {
 }
 
 /// Removes what an earlier run left at a name.
-fn remove_left<R: Files>(files: &R, path: &str) -> io::Result<()> {
+fn remove_leftover<R: Files>(files: &R, path: &str) -> io::Result<()> {
     match fs::remove_file(files, path) {
         Err(error) if error.kind() != ErrorKind::NotFound => Err(error),
         _ => Ok(()),
@@ -57,7 +57,7 @@ fn create_beside<R: Files>(files: &R, path: &str, beside: &str) -> io::Result<Op
     if let Standing::Other = found {
         return Ok(None);
     }
-    remove_left(files, beside)?;
+    remove_leftover(files, beside)?;
     match found {
         Standing::File(other) => Ok(Some(create_like(files, beside, &other)?)),
         _ => Ok(Some(fs::File::create_new(files, beside)?)),
@@ -66,14 +66,14 @@ fn create_beside<R: Files>(files: &R, path: &str, beside: &str) -> io::Result<Op
 
 /// Creates an empty file beside a name, in place of what an earlier run left there. `None` if the name is one of a link or a
 /// device, its folder takes no new file, or a new file cannot have the owner of the old one.
-pub fn created_beside<R: Files>(
+pub fn create_beside_if_permitted<R: Files>(
     files: &R,
     path: &str,
     beside: &str,
 ) -> io::Result<Option<R::File>> {
     match create_beside(files, path, beside) {
         Err(error) if error.kind() == ErrorKind::PermissionDenied => {
-            let _ = remove_left(files, beside);
+            let _ = remove_leftover(files, beside);
             Ok(None)
         }
         answer => answer,

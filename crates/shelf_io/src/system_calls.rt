@@ -3,7 +3,7 @@
 ghost use Rattle.std.specs.Prelude.{◌≡◌, ◌≤◌, false, true};
 ghost use Rattle.shelf_io.specs.Counts.{Rose};
 
-use crate::replacing::created_beside;
+use crate::replacing::create_beside_if_permitted;
 use crate::system::System;
 use std::fs::OpenFile;
 use std::io::{Read, Write};
@@ -76,7 +76,7 @@ impl<R: Files> System for SystemCalls<R> {
     }
 
     fn create_beside(&mut self, path: &str, beside: &str) -> io::Result<Option<R::File>> {
-        let answer = created_beside(&self.runtime, path, beside);
+        let answer = create_beside_if_permitted(&self.runtime, path, beside);
         self.count(answer.is_err());
         answer
     }

@@ -31,7 +31,7 @@ fn lengthen(into: &mut Vec<u8>, filled: usize, most: usize) -> Result<(), Memory
 /// Fills a buffer from `at` on by one read, and answers how many bytes that took. If the bytes of
 /// the file are known, those in front of the new end are what it gave since any start at which this
 /// held of those in front of the old one.
-fn read_at<S: System>(
+fn read_into_tail<S: System>(
     system: &mut S,
     file: &mut S::Opened,
     into: &mut Vec<u8>,
@@ -82,7 +82,7 @@ pub fn read_most<S: System>(
         let Ok(()) = lengthen(into, filled, most) else {
             return Err(ReadStop::Memory);
         };
-        let taken = read_at(system, file, into, filled)?;
+        let taken = read_into_tail(system, file, into, filled)?;
         if taken == 0 {
             into.truncate(filled);
             return Ok(());

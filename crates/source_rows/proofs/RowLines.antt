@@ -10,7 +10,7 @@ use Rattle.ucd_facts.specs.declared.row.Row.TheVariants.{Unit as DataLine}
 use Rattle.source_rows.specs.Lines.{are_first_fields, is_first_line}
 use Rattle.source_rows.specs.DataFaults.{first_label, pair_end, pair_or_fault, unit_or_fault, values_or_fault}
 use Rattle.source_rows.specs.Faults.{row_or_fault, line_or_fault, SourceFile, Row}
-use Rattle.source_rows.specs.RowLines.{TwoLines, RowsHaveLines}
+use Rattle.source_rows.specs.RowLines.{TwoLines, RowsAreLinesOrRanges}
 use Rattle.source_rows.specs.declared.fault.RowFault.TheVariants.{G03, G04, G09}
 use Rattle.source_rows.proofs.FirstLines.{no_row_alone}
 use Rattle.source_rows.proofs.Found.{passed, found, after}
@@ -78,7 +78,7 @@ alone : (file : SourceFile) (bytes : List ℕ) → holds_line_feed bytes ≡ fal
 unfolding row_or_fault
 alone file bytes no_feed = rw no_feed refl
 
-pub rows_have_lines : RowsHaveLines
+pub rows_have_lines : RowsAreLinesOrRanges
 rows_have_lines file bytes row h = record {
   one = λ no_feed. one_line file bytes row (sym (alone file bytes no_feed) ∙ h);
   two = λ feed. two_lines file bytes row h ((rows_are_read file bytes row).0 h) feed;

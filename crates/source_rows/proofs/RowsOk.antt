@@ -21,7 +21,7 @@ use Rattle.ucd_facts.specs.declared.row.CasingRow.{CasingRow}
 use Rattle.ucd_facts.specs.declared.row.AliasRow.{AliasRow}
 use Rattle.ucd_facts.specs.declared.row.Row.TheVariants.{Unit as DataLine, Value as ValueLine, Exclusion as ExclusionLine, Fold as FoldLine, Casing as CasingLine, Alias as AliasLine, Missing as MissingLine}
 use Rattle.source_rows.specs.Fields.{fields_of, row_fields}
-use Rattle.source_rows.specs.Laws.{RowsAreOk}
+use Rattle.source_rows.specs.Laws.{PossibleRowsAreReadable}
 use Rattle.source_rows.proofs.Lacks.{Lacks}
 use Rattle.source_rows.proofs.Seams.{lacks_before}
 use Rattle.source_rows.proofs.FieldValues.{fields_kept, fields_lack, at_field, empty_kept, lacks_take, lacks_return}
@@ -154,7 +154,7 @@ read_ok : (file : SourceFile) (bytes : List ℕ) (row : Row) → Reads file byte
 read_ok file bytes row (inl line) = line_ok file bytes row line.0 line.1
 read_ok file bytes row (inr range) = lines_ok file bytes row range
 
-pub rows_are_ok : RowsAreOk
+pub rows_are_ok : PossibleRowsAreReadable
 rows_are_ok file row = (λ ok. (row_text file row, text_reads file row ok), λ some. read_ok file some.0 row some.1)
 
 -- what was read as a row

@@ -2,7 +2,7 @@
 -- TwoLines file bytes   a line of UnicodeData.txt that is no trivia and begins a range, with or without a CR at its end, a LF, and a
 --                       line that is not empty
 -- HasLines file bytes   bytes with a LF are two such lines; a line without one begins no range
--- RowsHaveLines         so it is of all bytes that are read as a row
+-- RowsAreLinesOrRanges         so it is of all bytes that are read as a row
 use Rattle.std.specs.Prelude.{◌≡◌, ◌≢◌, ℕ, true, false, List, [], ◌∷◌, ◌++◌, Ok}
 use Rattle.ucd_points.specs.Lines.{holds_line_feed, without_return}
 use Rattle.ucd_points.specs.MissingLines.{is_trivia}
@@ -25,5 +25,5 @@ pub record HasLines (file : SourceFile) (bytes : List ℕ) : Type 0 where
   pub one : holds_line_feed bytes ≡ false → file ≡ UnicodeData → is_first_line bytes ≡ false
   pub two : holds_line_feed bytes ≡ true → TwoLines file bytes
 
-abbrev pub RowsHaveLines : Type 0
-RowsHaveLines = (file : SourceFile) (bytes : List ℕ) (row : Row) → row_or_fault file bytes ≡ Ok row → HasLines file bytes
+abbrev pub RowsAreLinesOrRanges : Type 0
+RowsAreLinesOrRanges = (file : SourceFile) (bytes : List ℕ) (row : Row) → row_or_fault file bytes ≡ Ok row → HasLines file bytes

@@ -41,7 +41,7 @@ pub struct FoldText<'a> {
 }
 
 /// Whether a folding of the status may have so many code points.
-fn folds_to(status: FoldStatus, len: usize) -> bool
+fn is_folding_length(status: FoldStatus, len: usize) -> bool
     ensures { result ≡ folds_to status len }
 {
     match status {
@@ -55,7 +55,7 @@ fn folding_of(status: FoldStatus, field: &[u8]) -> Option<Mapping<'_>>
     ensures { result ≡ of_status status (mapping_of field.now) }
 {
     let mapping = mapping_of(field)?;
-    if !folds_to(status, mapping.len()) {
+    if !is_folding_length(status, mapping.len()) {
         return None;
     }
     Some(mapping)

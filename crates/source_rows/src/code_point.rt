@@ -70,14 +70,14 @@ fn is_label_closed_by(closing: &[u8], text: &[u8]) -> bool
 }
 
 /// Whether the name is `<Label, First>`.
-pub fn has_first_name(name: &[u8]) -> bool
+pub fn is_range_first_name(name: &[u8]) -> bool
     ensures { result ≡ has_first_name name.now }
 {
     is_label_closed_by(b", First>", name)
 }
 
 /// Whether the name is `<Label, Last>`.
-pub fn has_last_name(name: &[u8]) -> bool
+pub fn is_range_last_name(name: &[u8]) -> bool
     ensures { result ≡ has_last_name name.now }
 {
     is_label_closed_by(b", Last>", name)
@@ -90,7 +90,7 @@ pub fn is_range_name(name: &[u8]) -> bool
     ensures { result ≡ is_range_name name.now }
 {
     match name {
-        [b'<', ..] => has_first_name(name) || has_last_name(name),
+        [b'<', ..] => is_range_first_name(name) || is_range_last_name(name),
         _ => false,
     }
 }

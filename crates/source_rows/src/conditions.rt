@@ -7,7 +7,7 @@ ghost use Rattle.source_rows.specs.Fields.{with_word};
 ghost use Rattle.source_rows.specs.OtherFaults.{is_empty};
 
 use crate::key_names::compare_spaced;
-use crate::mapping::first_word;
+use crate::mapping::cut_at_first_blank;
 use std::alloc::Global;
 use std::marker::Model;
 use ucd_facts::{Memory, Text};
@@ -44,7 +44,7 @@ fn spaced_words(alloc: Global, text: &[u8]) -> Result<Text, Memory>
     let mut spaced = Text::new(alloc);
     let mut rest = text;
     'words: while !rest.is_empty() {
-        let (word, behind) = first_word(rest);
+        let (word, behind) = cut_at_first_blank(rest);
         rest = behind;
         if word.is_empty() {
             continue;

@@ -5,7 +5,7 @@ ghost use Rattle.ucd_facts.specs.Names.{tag_of, positional_tag_of, shaped_tag_of
 ghost use Rattle.source_rows.specs.DataFaults.{decomposition_or_fault, canonical_or_fault, compat_or_fault};
 
 use crate::fault::RowFault;
-use crate::mapping::{Mapping, some_mapping_of};
+use crate::mapping::{Mapping, nonempty_mapping_of};
 use ucd_facts::{Kind, Tag};
 use ucd_lines::cut;
 
@@ -121,7 +121,7 @@ fn read_compat(field: &[u8]) -> Result<Decomposition<'_>, RowFault>
     let Some(tag) = tag_of(tag) else {
         return Err(RowFault::G07);
     };
-    let Some(mapping) = some_mapping_of(behind) else {
+    let Some(mapping) = nonempty_mapping_of(behind) else {
         return Err(RowFault::G07);
     };
     Ok(Decomposition {
@@ -134,7 +134,7 @@ fn read_compat(field: &[u8]) -> Result<Decomposition<'_>, RowFault>
 fn read_canonical(field: &[u8]) -> Result<Decomposition<'_>, RowFault>
     ensures { result ≡ canonical_or_fault field.now }
 {
-    let Some(mapping) = some_mapping_of(field) else {
+    let Some(mapping) = nonempty_mapping_of(field) else {
         return Err(RowFault::G07);
     };
     if mapping.len() > CANONICAL {

@@ -69,7 +69,7 @@ fn read_tail(tail: &[u8]) -> Option<Result<Values<'_>, RowFault>>
 
 impl<'a> FieldsCache<'a> {
     /// The most usual tail, that of a letter.
-    pub fn of_letter() -> FieldsCache<'a> {
+    pub fn with_letter_tail() -> FieldsCache<'a> {
         FieldsCache {
             text: b"Lo;0;L;;;;;N;;;;;",
             category: Category::Lo,
@@ -78,7 +78,7 @@ impl<'a> FieldsCache<'a> {
     }
 
     /// Keeps a tail if it gives no mapping.
-    fn keep(&mut self, tail: &'a [u8], values: &Values<'_>)
+    fn keep_if_bare(&mut self, tail: &'a [u8], values: &Values<'_>)
         requires { tail_values tail.now ≡ Some (Ok values.now) }
     {
         if is_bare(values) {
@@ -100,7 +100,7 @@ impl<'a> FieldsCache<'a> {
         }
         let given = read_tail(tail)?;
         if let Ok(values) = &given {
-            self.keep(tail, values);
+            self.keep_if_bare(tail, values);
         }
         Some(given)
     }

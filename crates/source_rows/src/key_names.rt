@@ -14,14 +14,14 @@ ghost use Rattle.source_rows.specs.KeyNames.{content_group, content_names, names
 
 use crate::code_point::span_of;
 use crate::fields::{first_field, two_fields, without_comment};
-use crate::mapping::first_word;
+use crate::mapping::cut_at_first_blank;
 use crate::special_casing::conditions_field;
 use std::cmp::Ordering;
 use ucd_facts::{Point, SourceFile, Text};
 use ucd_lines::{Fields, compare_hex, missing_rest};
 
 /// How the first bytes of a text, as many as a part has, compare with the part; and the bytes behind them.
-fn compare_part<'a>(text: &'a [u8], part: &[u8]) -> (Ordering, &'a [u8])
+fn compare_prefix<'a>(text: &'a [u8], part: &[u8]) -> (Ordering, &'a [u8])
     ensures order { result.0 ≡ slice_cmp nat_cmp (take (length part.now) text.now) part.now }
     ensures rest { result.1.now ≡ drop (length part.now) text.now }
 {
@@ -39,16 +39,16 @@ pub fn compare_spaced(expected: &[u8], text: &[u8]) -> Ordering
     let mut rest = text;
     let mut gap = b"".as_slice();
     'words: while !rest.is_empty() {
-        let (word, behind) = first_word(rest);
+        let (word, behind) = cut_at_first_blank(rest);
         rest = behind;
         if word.is_empty() {
             continue;
         }
-        let (order, behind_gap) = compare_part(left, gap);
+        let (order, behind_gap) = compare_prefix(left, gap);
         if order.is_ne() {
             return order;
         }
-        let (order, behind_word) = compare_part(behind_gap, word);
+        let (order, behind_word) = compare_prefix(behind_gap, word);
         if order.is_ne() {
             return order;
         }
@@ -201,7 +201,7 @@ pub fn compare_names(file: SourceFile, names: &[Text], content: &[u8]) -> Orderi
 }
 
 /// The value of a row of Scripts.txt or WordBreakProperty.txt; for a missing row `#`, which is in no value.
-fn value_group(file: SourceFile, content: &[u8]) -> &[u8]
+fn value_section(file: SourceFile, content: &[u8]) -> &[u8]
     ensures { result.now ≡ (if is_missing file content.now then no_value else field
         (row_fields file content.now) 1) }
 {
@@ -215,12 +215,12 @@ fn value_group(file: SourceFile, content: &[u8]) -> &[u8]
 /// WordBreakProperty.txt, but `#` for a missing row; the property in PropertyValueAliases.txt; nothing in the other
 /// files. It takes no memory.
 #[tactic(auto, unfolding(ucd_points::specs::Fields::fields, ucd_points::specs::MissingLines::missing_rest))]
-pub fn content_group(file: SourceFile, content: &[u8]) -> &[u8]
+pub fn content_section(file: SourceFile, content: &[u8]) -> &[u8]
     ensures { result.now ≡ content_group file content.now }
 {
     match file {
         SourceFile::PropList => second_field(content),
-        SourceFile::Scripts | SourceFile::WordBreakProperty => value_group(file, content),
+        SourceFile::Scripts | SourceFile::WordBreakProperty => value_section(file, content),
         SourceFile::PropertyValueAliases => first_field(without_comment(content)).0,
         _ => &[],
     }

@@ -3,9 +3,9 @@
 ghost use Rattle.source_rows.specs.KeyGrammar.{KeysAreRead};
 ghost use Rattle.source_rows.specs.KeyNames.{ContentsHaveKeys};
 ghost use Rattle.source_rows.specs.KeyTexts.{KeyTextsReadBack};
-ghost use Rattle.source_rows.specs.Laws.{SpansAreSpelled, CategoriesAreNamed, RowsAreOk, RowsAreRead, SpellingsAreOne, TextsReadBack};
-ghost use Rattle.source_rows.specs.Ranges.{FirstLinesBegin};
-ghost use Rattle.source_rows.specs.RowLines.{RowsHaveLines};
+ghost use Rattle.source_rows.specs.Laws.{SpansAreRead, CategoriesAreNamed, PossibleRowsAreReadable, RowsAreRead, SpellingsAreOne, TextsReadBack};
+ghost use Rattle.source_rows.specs.Ranges.{FirstLinesTellRangeFaults};
+ghost use Rattle.source_rows.specs.RowLines.{RowsAreLinesOrRanges};
 ghost use Rattle.source_rows.specs.Trivia.{RowsAreNoTrivia};
 
 /// The reader gives a row exactly if the grammar reads the bytes as that row.
@@ -14,8 +14,8 @@ pub fn rows_are_read()
 {}
 
 /// The reader gives a span exactly if the bytes spell it.
-pub fn spans_are_spelled()
-    ensures { SpansAreSpelled }
+pub fn spans_are_read()
+    ensures { SpansAreRead }
 {}
 
 /// The code of each category but `Cn` is read as that category, and `Cn` is none.
@@ -29,8 +29,8 @@ pub fn texts_read_back()
 {}
 
 /// The row values that a file can have are those that some bytes are read as.
-pub fn rows_are_ok()
-    ensures { RowsAreOk }
+pub fn possible_rows_are_readable()
+    ensures { PossibleRowsAreReadable }
 {}
 
 /// No bytes are read as two rows, and no two rows have one text.
@@ -44,8 +44,8 @@ pub fn keys_are_read()
 {}
 
 /// What a first line of a range says of the fault of two lines.
-pub fn first_lines_begin()
-    ensures { FirstLinesBegin }
+pub fn first_lines_tell_range_faults()
+    ensures { FirstLinesTellRangeFaults }
 {}
 
 /// Bytes that are read as a row are neither blank nor a comment.
@@ -64,6 +64,6 @@ pub fn key_texts_read_back()
 {}
 
 /// A row has one line that begins no range, or the two lines of a range of UnicodeData.txt.
-pub fn rows_have_lines()
-    ensures { RowsHaveLines }
+pub fn rows_are_lines_or_ranges()
+    ensures { RowsAreLinesOrRanges }
 {}

@@ -42,14 +42,14 @@ pub use fault::{RowFault, RowStop};
 pub use fields_cache::FieldsCache;
 pub use fifteen::DataFields;
 pub use key::Key;
-pub use key_names::{compare_names, content_group};
+pub use key_names::{compare_names, content_section};
 pub use keys::read_key;
 pub use laws::{
-    categories_are_named, contents_have_keys, first_lines_begin, key_texts_read_back,
-    keys_are_read, rows_are_no_trivia, rows_are_ok, rows_are_read, rows_have_lines,
-    spans_are_spelled, spellings_are_one, texts_read_back,
+    categories_are_named, contents_have_keys, first_lines_tell_range_faults, key_texts_read_back,
+    keys_are_read, possible_rows_are_readable, rows_are_lines_or_ranges, rows_are_no_trivia,
+    rows_are_read, spans_are_read, spellings_are_one, texts_read_back,
 };
-pub use mapping::{Mapping, some_mapping_of};
+pub use mapping::{Mapping, nonempty_mapping_of};
 pub use point_values::{PointValues, read_point_values, read_point_values_with_cache};
 pub use read::{has_values, read_row, read_row_ref, read_valued};
 pub use row_keys::row_key;

@@ -28,7 +28,7 @@ fn first_blank(text: &[u8]) -> usize
 }
 
 /// What stands before the first white space, and what stands behind it.
-pub fn first_word(text: &[u8]) -> (&[u8], &[u8])
+pub fn cut_at_first_blank(text: &[u8]) -> (&[u8], &[u8])
     requires { 0 < length text.now }
     ensures before { result.0.now ≡ before_first is_blank text.now }
     ensures after { result.1.now ≡ after_first is_blank text.now }
@@ -48,7 +48,7 @@ fn next_word(text: &[u8]) -> (&[u8], &[u8])
 {
     let mut rest = text;
     'words: while !rest.is_empty() {
-        let (word, behind) = first_word(rest);
+        let (word, behind) = cut_at_first_blank(rest);
         if !word.is_empty() {
             return (word, behind);
         }
@@ -147,7 +147,7 @@ pub fn mapping_of(text: &[u8]) -> Option<Mapping<'_>>
     let mut count = 0;
     let mut rest = text;
     'words: while !rest.is_empty() {
-        let (word, behind) = first_word(rest);
+        let (word, behind) = cut_at_first_blank(rest);
         rest = behind;
         if word.is_empty() {
             continue;
@@ -165,7 +165,7 @@ pub fn mapping_of(text: &[u8]) -> Option<Mapping<'_>>
 
 /// The mapping of one code point or more that the words of a text spell. `None` if a word is no code point, if there are no
 /// words, or if there are more than 64 words.
-pub fn some_mapping_of(text: &[u8]) -> Option<Mapping<'_>>
+pub fn nonempty_mapping_of(text: &[u8]) -> Option<Mapping<'_>>
     ensures { result ≡ at_least_one (mapping_of text.now) }
 {
     let mapping = mapping_of(text)?;

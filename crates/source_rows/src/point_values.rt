@@ -14,7 +14,7 @@ use crate::fault::RowFault;
 use crate::fields::{first_field, first_short_field};
 use crate::fields_cache::FieldsCache;
 use crate::lines::holds_line_feed;
-use crate::unicode_data::{read_pair, span_of_line};
+use crate::unicode_data::{read_range, span_of_single_line};
 use ucd_facts::{SourceFile, Span};
 use ucd_lines::{cut, hex};
 
@@ -28,7 +28,7 @@ pub struct PointValues<'a> {
 }
 
 /// Values and a span; or the first fault.
-fn given_or_fault<'a>(
+fn point_values_or_fault<'a>(
     values: Result<Values<'a>, RowFault>,
     end: Result<Span, RowFault>,
 ) -> Result<PointValues<'a>, RowFault>
@@ -57,14 +57,14 @@ fn single_values<'a>(
     if !is_name(f1) {
         return Err(RowFault::G11);
     }
-    given_or_fault(values, span_of_line(point, f1))
+    point_values_or_fault(values, span_of_single_line(point, f1))
 }
 
 /// What the row of two lines gives, or its first fault.
-fn pair_values<'a>(front: &'a [u8], last: &[u8]) -> Result<PointValues<'a>, RowFault>
+fn range_values<'a>(front: &'a [u8], last: &[u8]) -> Result<PointValues<'a>, RowFault>
     ensures { PointValuesAs result (lines_or_fault SourceFile.UnicodeData front.now last.now) }
 {
-    let DataText { span, values, .. } = read_pair(front, last)?;
+    let DataText { span, values, .. } = read_range(front, last)?;
     Ok(PointValues { span, values })
 }
 
@@ -87,7 +87,7 @@ pub fn read_point_values_with_cache<'a>(
         return single_values(bytes, above);
     }
     let (front, last) = cut(bytes, b'\n');
-    pair_values(front, last)
+    range_values(front, last)
 }
 
 /// What a row gives to its code points, as it stands in a line of UnicodeData.txt, or in the two lines of a range: the row
@@ -100,5 +100,5 @@ pub fn read_point_values_with_cache<'a>(
 pub fn read_point_values(bytes: &[u8]) -> Result<PointValues<'_>, RowFault>
     ensures { PointValuesAs result (row_or_fault SourceFile.UnicodeData bytes.now) }
 {
-    read_point_values_with_cache(bytes, &mut FieldsCache::of_letter())
+    read_point_values_with_cache(bytes, &mut FieldsCache::with_letter_tail())
 }

@@ -70,7 +70,12 @@ fn put_field(field: &[u8], into: &mut Text) -> Result<(), Memory>
 }
 
 /// Appends fields 0 to 3.
-fn put_front(row: &DataRow, point: Point, name: &[u8], into: &mut Text) -> Result<(), Memory>
+fn put_fields_0_to_3(
+    row: &DataRow,
+    point: Point,
+    name: &[u8],
+    into: &mut Text,
+) -> Result<(), Memory>
     ensures { OnOk result (into.new ≡ into.old
         ++ ended (hex_text point ∷ name.now ∷ category_code row.now.category
         ∷ decimal row.now.class ∷ [])) }
@@ -84,7 +89,7 @@ fn put_front(row: &DataRow, point: Point, name: &[u8], into: &mut Text) -> Resul
 }
 
 /// Appends fields 4 to 7.
-fn put_decomposed(row: &DataRow, into: &mut Text) -> Result<(), Memory>
+fn put_fields_4_to_7(row: &DataRow, into: &mut Text) -> Result<(), Memory>
     ensures { OnOk result (into.new ≡ into.old
         ++ ended (row.now.kept.f4 ∷ decomposition_text row.now.kind row.now.mapping
         ∷ row.now.kept.f6 ∷ row.now.kept.f7 ∷ [])) }
@@ -97,7 +102,7 @@ fn put_decomposed(row: &DataRow, into: &mut Text) -> Result<(), Memory>
 }
 
 /// Appends fields 8 to 11.
-fn put_kept(row: &DataRow, into: &mut Text) -> Result<(), Memory>
+fn put_fields_8_to_11(row: &DataRow, into: &mut Text) -> Result<(), Memory>
     ensures { OnOk result (into.new ≡ into.old
         ++ ended (row.now.kept.f8 ∷ row.now.kept.f9 ∷ row.now.kept.f10 ∷ row.now.kept.f11
         ∷ [])) }
@@ -125,9 +130,9 @@ fn put_cases(row: &DataRow, into: &mut Text) -> Result<(), Memory>
 fn put_line(row: &DataRow, point: Point, name: &[u8], into: &mut Text) -> Result<(), Memory>
     ensures { OnOk result (into.new ≡ into.old ++ data_line row.now point name.now) }
 {
-    put_front(row, point, name, into)?;
-    put_decomposed(row, into)?;
-    put_kept(row, into)?;
+    put_fields_0_to_3(row, point, name, into)?;
+    put_fields_4_to_7(row, into)?;
+    put_fields_8_to_11(row, into)?;
     put_cases(row, into)
 }
 

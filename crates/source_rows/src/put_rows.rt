@@ -77,7 +77,7 @@ pub fn put_casing(row: &CasingRow, into: &mut Text) -> Result<(), Memory>
 }
 
 /// Appends each name with ` ; ` before it.
-fn put_named(names: &[Text], into: &mut Text) -> Result<(), Memory>
+fn put_further_names(names: &[Text], into: &mut Text) -> Result<(), Memory>
     ensures { OnOk result (into.new ≡ into.old ++ named names.now) }
 {
     for name in names {
@@ -97,7 +97,7 @@ pub fn put_names(names: &[Text], into: &mut Text) -> Result<(), Memory>
         [] => Ok(()),
         [first, others @ ..] => {
             into.append(first.as_slice())?;
-            put_named(others, into)
+            put_further_names(others, into)
         }
     }
 }

@@ -12,7 +12,7 @@ use crate::fault::{RowFault, RowStop};
 use crate::lines::holds_line_feed;
 use crate::row_ref::RowRef;
 use crate::special_casing::read_casing;
-use crate::unicode_data::read_unit;
+use crate::unicode_data::read_data_ref;
 use crate::values::{Valued, read_value, read_value_or_missing, read_value_ref};
 use std::alloc::Global;
 use ucd_facts::{Row, SourceFile};
@@ -32,7 +32,7 @@ pub fn read_row_ref(file: SourceFile, bytes: &[u8]) -> Result<RowRef<'_>, RowFau
         return Err(RowFault::G03);
     }
     match file {
-        SourceFile::UnicodeData => read_unit(bytes),
+        SourceFile::UnicodeData => read_data_ref(bytes),
         SourceFile::PropList => read_value_ref(SourceFile::PropList, bytes),
         SourceFile::Scripts => read_value_ref(SourceFile::Scripts, bytes),
         SourceFile::WordBreakProperty => read_value_ref(SourceFile::WordBreakProperty, bytes),

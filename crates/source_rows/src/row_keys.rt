@@ -34,7 +34,7 @@ fn value_names(alloc: Global, file: SourceFile, value: &[u8]) -> Result<Texts, M
 }
 
 /// How many names of an alias row its key has.
-fn alias_count(file: SourceFile) -> usize
+fn alias_key_name_count(file: SourceFile) -> usize
     ensures { result ≡ alias_count file }
 {
     match file {
@@ -44,11 +44,11 @@ fn alias_count(file: SourceFile) -> usize
 }
 
 /// The first names of an alias row, as many as its key has.
-fn alias_names(alloc: Global, file: SourceFile, names: &Texts) -> Result<Texts, Memory>
+fn alias_key_names(alloc: Global, file: SourceFile, names: &Texts) -> Result<Texts, Memory>
     ensures { IfOk result (λ first. first ≡ take (alias_count file) names.now) }
 {
     let mut first = names.copy(alloc)?;
-    first.truncate(alias_count(file));
+    first.truncate(alias_key_name_count(file));
     Ok(first)
 }
 
@@ -60,7 +60,7 @@ fn key_names(alloc: Global, file: SourceFile, row: &Row) -> Result<Texts, Memory
         Row::Value(row) => value_names(alloc, file, row.value.as_slice()),
         Row::Fold(row) => letter_name(alloc, row.status),
         Row::Casing(row) => condition_names(alloc, row.conditions.copy(alloc)?),
-        Row::Alias(row) => alias_names(alloc, file, &row.names),
+        Row::Alias(row) => alias_key_names(alloc, file, &row.names),
         Row::Missing(row) => missing_names(alloc, row.span.hi),
         Row::Unit(_) | Row::Exclusion(_) => Ok(Texts::new(alloc)),
     }

@@ -11,7 +11,9 @@ ghost use Rattle.source_rows.specs.DataFaults.{DataTextAs, unit_or_fault, single
 ghost use Rattle.source_rows.specs.Faults.{lines_or_fault, row_or_fault};
 ghost use Rattle.source_rows.specs.RowRefs.{RefAs};
 
-use crate::code_point::{has_first_name, has_last_name, is_name, is_range_name, label_of};
+use crate::code_point::{
+    is_name, is_range_first_name, is_range_last_name, is_range_name, label_of,
+};
 use crate::data_text::DataText;
 use crate::data_values::read_values;
 use crate::fault::RowFault;
@@ -44,7 +46,7 @@ fn text_or_fault<'a>(
 }
 
 /// The span of a line by itself.
-pub fn span_of_line(point: Point, name: &[u8]) -> Result<Span, RowFault>
+pub fn span_of_single_line(point: Point, name: &[u8]) -> Result<Span, RowFault>
     ensures { result ≡ single_end point name.now }
 {
     if is_range_name(name) {
@@ -68,11 +70,11 @@ fn read_single(content: &[u8]) -> Result<DataText<'_>, RowFault>
     if !is_name(line.f1) {
         return Err(RowFault::G11);
     }
-    text_or_fault(&line, false, line.f1, span_of_line(point, line.f1))
+    text_or_fault(&line, false, line.f1, span_of_single_line(point, line.f1))
 }
 
 /// Whether a text begins with white space or `<`, as the text of a name that begins with `<` does.
-fn may_open_name(text: &[u8]) -> bool
+fn may_begin_range_name(text: &[u8]) -> bool
     ensures { result ≡ may_open_name text.now }
 {
     match text {
@@ -88,10 +90,10 @@ pub fn begins_range(content: &[u8]) -> bool
     ensures { result ≡ is_first_line content.now }
 {
     let (_, others) = cut_at_near_semicolon(content);
-    if !may_open_name(others) {
+    if !may_begin_range_name(others) {
         return false;
     }
-    has_first_name(two_fields(content).1) && field_count(content) == FIELDS
+    is_range_first_name(two_fields(content).1) && field_count(content) == FIELDS
 }
 
 /// Whether a line ends the range of a label.
@@ -103,7 +105,7 @@ fn ends_range(label: &[u8], content: &[u8]) -> bool
         return false;
     }
     let name = two_fields(content).1;
-    has_last_name(name) && label_of(b", Last>", name) == label
+    is_range_last_name(name) && label_of(b", Last>", name) == label
 }
 
 /// The span of a range, by its label, its first code point and its last line.
@@ -125,7 +127,7 @@ fn span_of_range(label: &[u8], lo: Point, last: &[u8]) -> Result<Span, RowFault>
 
 /// The row of two lines, or its first fault.
 #[tactic(auto, unfolding(ucd_points::specs::Fields::fields, crate::specs::DataFaults::pair_or_fault))]
-pub fn read_pair<'a>(front: &'a [u8], last: &[u8]) -> Result<DataText<'a>, RowFault>
+pub fn read_range<'a>(front: &'a [u8], last: &[u8]) -> Result<DataText<'a>, RowFault>
     ensures { DataTextAs result (lines_or_fault SourceFile.UnicodeData front.now last.now) }
 {
     let first = without_return(front);
@@ -158,12 +160,12 @@ fn read_data(bytes: &[u8]) -> Result<DataText<'_>, RowFault>
         return read_single(bytes);
     }
     let (front, last) = cut(bytes, b'\n');
-    read_pair(front, last)
+    read_range(front, last)
 }
 
 /// The row of a line of UnicodeData.txt, or of the two lines of a range, as a row of any file. `read_data` tells in which
 /// order the rules are tested. UAX #44, sections 4.2.3 and 5.3, table 9.
-pub fn read_unit(bytes: &[u8]) -> Result<RowRef<'_>, RowFault>
+pub fn read_data_ref(bytes: &[u8]) -> Result<RowRef<'_>, RowFault>
     ensures { RefAs result (row_or_fault SourceFile.UnicodeData bytes.now) }
 {
     let text = read_data(bytes)?;

@@ -9,7 +9,7 @@ use Rattle.release_rows.specs.ValuesApartProofs.{no_overlap, rows_append}
 use Rattle.ucd_points.specs.declared.files.SourceFile.TheVariants.{UnicodeData}
 use Rattle.ucd_facts.specs.declared.row.DataRow.{DataRow}
 use Rattle.ucd_facts.specs.declared.row.Row.TheVariants.{Unit as DataLine, Value as ValueLine, Exclusion as ExclusionLine, Fold as FoldLine, Casing as CasingLine, Alias as AliasLine, Missing as MissingLine}
-use Rattle.source_rows.specs.Laws.{RowsAreOk, RowsAreRead}
+use Rattle.source_rows.specs.Laws.{PossibleRowsAreReadable, RowsAreRead}
 use Rattle.release_rows.specs.Cuts.{Rises, begins_from}
 use Rattle.release_rows.specs.FileItems.{FileItem, onto_rows, rows_in, Row}
 use Rattle.release_rows.specs.Keys.{key_rule, overlaps, same_key}
@@ -39,7 +39,7 @@ leaves_last above x r free from ordered =
 
 -- ---- all rows
 
-module _ (read : RowsAreRead) (ok : RowsAreOk) where
+module _ (read : RowsAreRead) (ok : PossibleRowsAreReadable) where
   above_by : (item : FileItem) (rest : List Row) (above next : List Row) (m n : ℕ) (o : Option Row) → next ≡ above ++ onto_rows o [] → content_row UnicodeData item.content ≡ Ok o
       → ((row : Row) → o ≡ Some row → key_rule UnicodeData above row ≡ None) → All (begins_from m) (onto_rows o rest) → Rises (onto_rows o rest) → Leaves above m n
       → ((k l : ℕ) → All (begins_from k) rest → Rises rest → Leaves next k l → AreAbove l (named rest)) → AreAbove n (named (onto_rows o rest))

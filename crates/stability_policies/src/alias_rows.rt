@@ -52,7 +52,7 @@ fn put_if_lost(
     ensures same { kept.new ≡ kept.old }
 {
     let names = names_of(alloc, row)?;
-    if !kept.keep(alloc, file, names.as_slice())? {
+    if !kept.has_keeping_row(alloc, file, names.as_slice())? {
         into.push(Break::Alias { file, line })?;
     }
     Ok(())
@@ -118,7 +118,7 @@ impl<'a> KeptRows<'a> {
     }
 
     /// Whether the row at the likely place has the same names, in the same order.
-    fn is_likely(&self, names: &[Text]) -> bool
+    fn is_at_likely_place(&self, names: &[Text]) -> bool
         ensures { IsTrue result → (file : SourceFile)
             → list_any (keeps_names file names.now) self.now ≡ true }
     {
@@ -128,12 +128,17 @@ impl<'a> KeptRows<'a> {
     /// Whether a row keeps these names.
     ///
     /// - `Memory`: memory ran out.
-    fn keep(&mut self, alloc: Global, file: SourceFile, names: &[Text]) -> Result<bool, Memory>
+    fn has_keeping_row(
+        &mut self,
+        alloc: Global,
+        file: SourceFile,
+        names: &[Text],
+    ) -> Result<bool, Memory>
         ensures found { IfOk result
             (λ kept. kept ≡ list_any (keeps_names file names.now) self.old) }
         ensures same { self.new ≡ self.old }
     {
-        if self.is_likely(names) {
+        if self.is_at_likely_place(names) {
             self.likely = self.likely.saturating_add(1);
             return Ok(true);
         }
@@ -141,7 +146,7 @@ impl<'a> KeptRows<'a> {
             Some(places) => places,
             None => NamePlaces::of(alloc, self.rows)?,
         };
-        let found = places.kept_at(file, names);
+        let found = places.find_keeping_row(file, names);
         self.places = Some(places);
         if let Some(place) = found {
             self.likely = place.saturating_add(1);
@@ -166,7 +171,7 @@ fn are_same(a: &[Text], b: &[Text]) -> bool
 }
 
 /// Whether the first names are the same, if the first name of a row of this file names a property.
-pub fn keeps_first(file: SourceFile, a: &[Text], b: &[Text]) -> bool
+pub fn keeps_property_name(file: SourceFile, a: &[Text], b: &[Text]) -> bool
     ensures { result ≡ keeps_first file a.now b.now }
 {
     match file {

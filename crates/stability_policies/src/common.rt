@@ -64,14 +64,14 @@ pub fn common_caseless<O: Records + FactView, N: Records + FactView>(
     ensures old { IfOk result (λ points. caseless (O.facts_of old.now) s.now ≡ Ok points) }
     ensures new { IfOk result (λ points. caseless (N.facts_of new.now) s.now ≡ Ok points) }
 {
-    let points = folding_of(alloc, old, s)?;
+    let points = folding_of_nfkc(alloc, old, s)?;
     Ok(points)
 }
 
 /// The folding of a list under Normalisation Form KC, which is there.
 ///
 /// - `Memory`: memory ran out.
-fn folding_of<W: FactView>(alloc: Global, view: &W, s: &[Point]) -> Result<Points, Memory>
+fn folding_of_nfkc<W: FactView>(alloc: Global, view: &W, s: &[Point]) -> Result<Points, Memory>
     requires { HasList (caseless (W.facts_of view.now) s.now) }
     ensures { IfOk result (λ points. caseless (W.facts_of view.now) s.now ≡ Ok points) }
 {

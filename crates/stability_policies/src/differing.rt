@@ -23,7 +23,7 @@ pub enum Step {
 
 impl Step {
     /// How many rows of the old release it takes.
-    fn olds(self) -> usize
+    fn old_rows_taken(self) -> usize
         ensures { result ≡ olds self }
     {
         match self {
@@ -33,7 +33,7 @@ impl Step {
     }
 
     /// How many rows of the new release it takes.
-    fn news(self) -> usize
+    fn new_rows_taken(self) -> usize
         ensures { result ≡ news self }
     {
         match self {
@@ -63,8 +63,8 @@ pub fn put_differing(
     let mut at_new = 0;
     'rows: while at_old < old.len() && at_new < new.len() {
         let step = take_same_or_first(alloc, &old[at_old], &new[at_new], before, after)?;
-        at_old += step.olds();
-        at_new += step.news();
+        at_old += step.old_rows_taken();
+        at_new += step.new_rows_taken();
     }
     put_names(alloc, &old[at_old..], before)?;
     put_names(alloc, &new[at_new..], after)?;

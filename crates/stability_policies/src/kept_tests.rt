@@ -17,7 +17,7 @@ use ucd_model::{CoreSet, FactsRef, Point};
 
 /// Whether a code point with these facts and core properties in the old and in the new release has the same row and the
 /// same properties in both, and in neither a decomposition mapping or a mapping to lower case.
-pub fn is_kept(
+pub fn is_kept_and_unmapped(
     c: Point,
     old: &FactsRef<'_>,
     new: &FactsRef<'_>,
@@ -28,14 +28,14 @@ pub fn is_kept(
         (has_core old_core) (has_core new_core)) }
 {
     old_core.is_same(new_core)
-        && has_same_row(old, new)
+        && has_same_classification(old, new)
         && old.flags.is_same(new.flags)
         && is_unmapped(c, old)
         && is_unmapped(c, new)
 }
 
 /// Whether both have the same category, class and kind, and whether both or neither has a row.
-fn has_same_row(a: &FactsRef<'_>, b: &FactsRef<'_>) -> bool
+fn has_same_classification(a: &FactsRef<'_>, b: &FactsRef<'_>) -> bool
     ensures { Decides result ((a.now.assigned ≡ b.now.assigned) × ((a.now.category ≡ b.now.category)
         × ((a.now.class ≡ b.now.class) × (a.now.kind ≡ b.now.kind)))) }
 {
@@ -50,7 +50,7 @@ fn is_unmapped(c: Point, facts: &FactsRef<'_>) -> bool
 }
 
 /// The policies that a code point that is kept breaks, P10 aside, by its facts: P20 if it has a class and is no mark.
-pub fn kept_policies(facts: &FactsRef<'_>) -> PolicySet
+pub fn policies_broken_if_kept(facts: &FactsRef<'_>) -> PolicySet
     ensures mark { has_policy result P20
         ≡ (not ((shown_facts facts.now).class == 0) && not (is_mark (shown_facts facts.now))) }
     ensures rest { (other : PolicyValue) → place_of_policy other ≢ place_of_policy P20

@@ -41,11 +41,11 @@ pub fn maps_second_again<W: FactView>(view: &W, facts: &FactsRef<'_>) -> bool
     ensures { result ≡ (is_canonical (shown_facts facts.now).kind
         && second_maps (W.facts_of view.now) (shown_facts facts.now).mapping) }
 {
-    matches!(facts.kind, Kind::Canonical) && second_maps(view, facts.mapping)
+    matches!(facts.kind, Kind::Canonical) && has_mapped_second(view, facts.mapping)
 }
 
 /// Whether a mapping has two members, of which the second has a canonical mapping.
-fn second_maps<W: FactView>(view: &W, mapping: &[Point]) -> bool
+fn has_mapped_second<W: FactView>(view: &W, mapping: &[Point]) -> bool
     ensures { result ≡ second_maps (W.facts_of view.now) mapping.now }
 {
     match mapping {
@@ -57,7 +57,7 @@ fn second_maps<W: FactView>(view: &W, mapping: &[Point]) -> bool
 /// P19: a canonical mapping that is not in canonical order.
 ///
 /// - `Memory`: memory ran out.
-pub fn is_out_of_order<W: FactView>(
+pub fn has_unordered_mapping<W: FactView>(
     alloc: Global,
     view: &W,
     facts: &FactsRef<'_>,

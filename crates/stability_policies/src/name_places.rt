@@ -6,7 +6,7 @@ ghost use Rattle.std.specs.Str.{bytes_eq};
 ghost use Rattle.stability_policies.specs.NamePlaces.{has_name, has_names, is_at, place_of, IsNext, IsStep};
 ghost use Rattle.stability_policies.specs.Reports.{keeps_names};
 
-use crate::alias_rows::keeps_first;
+use crate::alias_rows::keeps_property_name;
 use std::alloc::Global;
 use std::marker::Model;
 use ucd_model::{Memory, SourceFile, Text, Texts};
@@ -100,7 +100,7 @@ impl<'a> NamePlaces<'a> {
 
     /// The first place of a row that keeps the names; `None` if no row keeps them. Its time grows with the names, with
     /// the logarithm of all names, and with the rows that have the rarest of them.
-    pub fn kept_at(&self, file: SourceFile, names: &[Text]) -> Option<usize>
+    pub fn find_keeping_row(&self, file: SourceFile, names: &[Text]) -> Option<usize>
         ensures { is_some result ≡ list_any (keeps_names file names.now) self.now }
     {
         let mut start = 0;
@@ -109,7 +109,7 @@ impl<'a> NamePlaces<'a> {
                 None => return None,
                 Some(place) if place > start => start = place,
                 Some(_) => {
-                    if keeps_first(file, names, self.rows[start].as_slice()) {
+                    if keeps_property_name(file, names, self.rows[start].as_slice()) {
                         return Some(start);
                     }
                     start += 1;

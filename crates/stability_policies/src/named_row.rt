@@ -7,7 +7,7 @@ ghost use Rattle.stability_policies.specs.NamedRows.{AreAbove, named, named_in};
 ghost use Rattle.release_rows.specs.Releases.{rows_now};
 
 use release_rows::{Release, RowText};
-use source_rows::{rows_are_ok, rows_are_read};
+use source_rows::{possible_rows_are_readable, rows_are_read};
 use std::alloc::Global;
 use ucd_model::{Memory, Row, SourceFile, Span, Text};
 
@@ -28,7 +28,7 @@ pub fn data_rows(alloc: Global, release: &Release) -> Result<Vec<RowText<'_>>, M
     ensures above { IfOk result (λ rows. AreAbove 0 (named rows.items)) }
 {
     rows_are_read();
-    rows_are_ok();
+    possible_rows_are_readable();
     let _rows = release.rows(SourceFile::UnicodeData);
     let rows = all_rows(alloc, release)?;
     Ok(rows)

@@ -75,7 +75,7 @@ fn put_renamed_among_names(
     let mut news = after;
     let mut number = 0;
     'stretches: while number < Point::COUNT {
-        let end = end_at(olds, number).min(end_at(news, number));
+        let end = end_of_one_name(olds, number).min(end_of_one_name(news, number));
         put_if_renamed(olds, news, number, end, into)?;
         olds = rows_from(olds, end);
         news = rows_from(news, end);
@@ -109,14 +109,17 @@ fn put_if_renamed(
 fn is_renamed(old: &[NamedRow], new: &[NamedRow], number: u32) -> bool
     ensures { result ≡ differ (name_here number old.now) (name_here number new.now) }
 {
-    match (row_at(old, number), row_at(new, number)) {
+    match (
+        first_row_if_begun(old, number),
+        first_row_if_begun(new, number),
+    ) {
         (Some(a), Some(b)) => a.name.as_slice() != b.name.as_slice(),
         _ => false,
     }
 }
 
 /// The first row, if it covers a code point or ends before it.
-fn row_at(rows: &[NamedRow], number: u32) -> Option<&NamedRow>
+fn first_row_if_begun(rows: &[NamedRow], number: u32) -> Option<&NamedRow>
     ensures { row_name (option_copied result) ≡ name_here number rows.now }
 {
     match rows {
@@ -126,7 +129,7 @@ fn row_at(rows: &[NamedRow], number: u32) -> Option<&NamedRow>
 }
 
 /// One past the last code point up to which all from `number` on have one name.
-fn end_at(rows: &[NamedRow], number: u32) -> u32
+fn end_of_one_name(rows: &[NamedRow], number: u32) -> u32
     requires below { number < 1114112 }
     requires begins { BeginsAt number rows.now }
     ensures end { result ≡ end_at number rows.now }

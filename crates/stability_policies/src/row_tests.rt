@@ -61,7 +61,7 @@ pub fn changes_control(old: &FactsRef<'_>, new: &FactsRef<'_>) -> bool
 }
 
 /// P14: the category Cs in exactly one, or Co in exactly one.
-pub fn changes_private_use(old: &FactsRef<'_>, new: &FactsRef<'_>) -> bool
+pub fn changes_surrogate_or_private(old: &FactsRef<'_>, new: &FactsRef<'_>) -> bool
     ensures { result ≡ (in_one (is_of_category Cs (shown_facts old.now))
         (is_of_category Cs (shown_facts new.now))
         || in_one (is_of_category Co (shown_facts old.now))

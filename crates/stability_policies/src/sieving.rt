@@ -14,7 +14,7 @@ use crate::caseless::changes_caseless;
 use crate::form_tests::keeps_forms;
 use crate::policy::Policy;
 use crate::policy_set::PolicySet;
-use crate::testing::other_policies;
+use crate::testing::broken_policies_except_caseless;
 use std::alloc::Global;
 use ucd_facts::UniformFacts;
 use ucd_model::{Kind, Memory, Point, Records, Span};
@@ -51,11 +51,11 @@ pub fn broken_stretches<O: Records + UniformFacts, N: Records + UniformFacts>(
     requires rooted { IsRooted (O.facts_of old.now) (N.facts_of new.now) }
     ensures { IfOk result (AreStretches (O.facts_of old.now) (N.facts_of new.now)) }
 {
-    let found = other_stretches(alloc, old, new)?;
+    let found = stretches_except_caseless(alloc, old, new)?;
     let foldings = if found.keep_forms {
         BrokenStretches::new(alloc)
     } else {
-        folding_stretches(alloc, old, new)?
+        stretches_changing_caseless(alloc, old, new)?
     };
     Ok(Stretches {
         foldings,
@@ -66,7 +66,7 @@ pub fn broken_stretches<O: Records + UniformFacts, N: Records + UniformFacts>(
 /// The stretches that break a policy other than P10. No form is made.
 ///
 /// - `Memory`: memory ran out.
-fn other_stretches<O: Records + UniformFacts, N: Records + UniformFacts>(
+fn stretches_except_caseless<O: Records + UniformFacts, N: Records + UniformFacts>(
     alloc: Global,
     old: &O,
     new: &N,
@@ -84,7 +84,7 @@ fn other_stretches<O: Records + UniformFacts, N: Records + UniformFacts>(
     'points: while number < Point::COUNT {
         let c = Point::at(number);
         let last = last_alike(old, new, c);
-        keep_forms &= put_other_policies(alloc, old, new, c, last, &mut stretches)?;
+        keep_forms &= put_stretch_and_test_forms(alloc, old, new, c, last, &mut stretches)?;
         number = last.number() + 1;
     }
     Ok(OtherStretches {
@@ -97,7 +97,7 @@ fn other_stretches<O: Records + UniformFacts, N: Records + UniformFacts>(
 /// is whether the code point keeps what forms rest on.
 ///
 /// - `Memory`: memory ran out.
-fn put_other_policies<O: Records + UniformFacts, N: Records + UniformFacts>(
+fn put_stretch_and_test_forms<O: Records + UniformFacts, N: Records + UniformFacts>(
     alloc: Global,
     old: &O,
     new: &N,
@@ -116,7 +116,7 @@ fn put_other_policies<O: Records + UniformFacts, N: Records + UniformFacts>(
 {
     let a = old.facts(c);
     let b = new.facts(c);
-    let policies = other_policies(alloc, old, new, c, &a, &b)?;
+    let policies = broken_policies_except_caseless(alloc, old, new, c, &a, &b)?;
     let span = Span { lo: c, hi: last };
     put_stretch(BrokenStretch { span, policies }, into)?;
     Ok(keeps_forms(policies, c, &a, &b))
@@ -125,7 +125,7 @@ fn put_other_policies<O: Records + UniformFacts, N: Records + UniformFacts>(
 /// The stretches that break P10.
 ///
 /// - `Memory`: memory ran out.
-fn folding_stretches<O: UniformFacts, N: UniformFacts>(
+fn stretches_changing_caseless<O: UniformFacts, N: UniformFacts>(
     alloc: Global,
     old: &O,
     new: &N,
@@ -138,7 +138,7 @@ fn folding_stretches<O: UniformFacts, N: UniformFacts>(
     'points: while number < Point::COUNT {
         let c = Point::at(number);
         let last = last_alike(old, new, c);
-        put_folding(alloc, old, new, c, last, &mut stretches)?;
+        put_if_caseless_changes(alloc, old, new, c, last, &mut stretches)?;
         number = last.number() + 1;
     }
     Ok(stretches)
@@ -147,7 +147,7 @@ fn folding_stretches<O: UniformFacts, N: UniformFacts>(
 /// Puts the stretch from a code point to `last`, if it breaks P10.
 ///
 /// - `Memory`: memory ran out.
-fn put_folding<O: UniformFacts, N: UniformFacts>(
+fn put_if_caseless_changes<O: UniformFacts, N: UniformFacts>(
     alloc: Global,
     old: &O,
     new: &N,

@@ -11,13 +11,13 @@ ghost use Rattle.stability_policies.specs.declared.policy.Policy.{Policy as Poli
 ghost use Rattle.stability_policies.specs.declared.policy.Policy.TheVariants.{P10};
 
 use crate::case_tests::{gains_case_pair, loses_case_pair};
-use crate::kept_tests::{is_kept, kept_policies};
-use crate::mapping_tests::{changes_composite, is_out_of_order, maps_second_again};
+use crate::kept_tests::{is_kept_and_unmapped, policies_broken_if_kept};
+use crate::mapping_tests::{changes_composite, has_unordered_mapping, maps_second_again};
 use crate::policy::Policy;
 use crate::policy_set::PolicySet;
 use crate::row_tests::{
     changes_class, changes_control, changes_mapping, changes_noncharacter, changes_pattern,
-    changes_private_use, has_class_without_mark, loses_its_row,
+    changes_surrogate_or_private, has_class_without_mark, loses_its_row,
 };
 use std::alloc::Global;
 use ucd_model::{Core, CoreSet, FactView, FactsRef, Memory, Point, Records};
@@ -26,7 +26,7 @@ use ucd_model::{Core, CoreSet, FactView, FactsRef, Memory, Point, Records};
 /// releases say the same of a code point without a mapping, only P20 can be broken.
 ///
 /// - `Memory`: memory ran out.
-pub fn other_policies<O: Records + FactView, N: Records + FactView>(
+pub fn broken_policies_except_caseless<O: Records + FactView, N: Records + FactView>(
     alloc: Global,
     old: &O,
     new: &N,
@@ -43,8 +43,8 @@ pub fn other_policies<O: Records + FactView, N: Records + FactView>(
 {
     let x = old.record(c).core;
     let y = new.record(c).core;
-    if is_kept(c, a, b, x, y) {
-        return Ok(kept_policies(b));
+    if is_kept_and_unmapped(c, a, b, x, y) {
+        return Ok(policies_broken_if_kept(b));
     }
     let mut policies = PolicySet::none();
     'policies: for policy in Policy::all() {
@@ -89,11 +89,11 @@ fn is_broken<O: FactView, N: FactView>(
         Policy::P11 => loses_case_pair(old, new, c, a, b),
         Policy::P12 => gains_case_pair(old, new, c, a, b),
         Policy::P13 => changes_control(a, b),
-        Policy::P14 => changes_private_use(a, b),
+        Policy::P14 => changes_surrogate_or_private(a, b),
         Policy::P15 => changes_noncharacter(a, b),
         Policy::P16 => changes_pattern(a, b),
         Policy::P18 => maps_second_again(new, b),
-        Policy::P19 => return is_out_of_order(alloc, new, b),
+        Policy::P19 => return has_unordered_mapping(alloc, new, b),
         Policy::P20 => has_class_without_mark(b),
     };
     Ok(broken)

@@ -5,7 +5,7 @@
 -- ImageIsOther         and else it holds what the code point is mapped to
 -- HangulComposesBack   the mapping of a Hangul syllable composes to the syllable: it is its consonant and vowel, or the syllable
 --                      without an ending and its ending. The Unicode Standard, section 3.12
--- FactsAreCut          a number past the code points has the facts of a code point without a row
+-- NumbersPastPointsAreUnassigned          a number past the code points has the facts of a code point without a row
 use Rattle.std.specs.Prelude.{◌≡◌, ℕ, ◌+◌, ◌-◌, ◌*◌, ◌%◌, ◌<◌, ◌≤◌, List, [], ◌∷◌, ◌↔◌, ◌⊎◌, true}
 use Rattle.ucd_points.specs.Limits.{point_count}
 use Rattle.ucd_facts.specs.Facts.{Sources, facts, unassigned, image, is_hangul_syllable, hangul_mapping, Same, To}
@@ -36,5 +36,5 @@ abbrev pub HangulComposesBack : Type 0
 HangulComposesBack = (c : ℕ) → is_hangul_syllable c ≡ true
     → ((l : ℕ) × (v : ℕ) × (hangul_mapping c ≡ l ∷ v ∷ []) × IsLV l v c) ⊎ ((lv : ℕ) × (t : ℕ) × (hangul_mapping c ≡ lv ∷ t ∷ []) × IsLVT lv t c)
 
-abbrev pub FactsAreCut : Type 0
-FactsAreCut = (rows : Sources) (c : ℕ) → point_count ≤ c → facts rows c ≡ unassigned c
+abbrev pub NumbersPastPointsAreUnassigned : Type 0
+NumbersPastPointsAreUnassigned = (rows : Sources) (c : ℕ) → point_count ≤ c → facts rows c ≡ unassigned c

@@ -1,6 +1,6 @@
 -- The facts of a code point and those of a number past them, and proofs of the laws of facts.
 -- facts_inside    the facts of a code point are those that the rows give
--- facts_outside   those of a number past them are those of no row: the law FactsAreCut
+-- facts_outside   those of a number past them are those of no row: the law NumbersPastPointsAreUnassigned
 -- judged_some     a list that breaks no rule is the list that is there
 -- image_is_same, image_is_other, hangul_composes_back   the laws of the same names
 use Rattle.std.proofs.Common.{◌≡◌, ℕ, ◌+◌, ◌-◌, ◌*◌, ◌/◌, ◌%◌, ◌<◌, ◌≤◌, Bool, true, false, ◌==◌, nat_lt, List, [], ◌∷◌, refl, ap, arith, inl, inr, ◌⊎◌, if◌then◌else◌, bytes_eq, lt-ltb, le-ltb, eqb-true, Option, None, Some, Ok, Err, cond, length}
@@ -10,13 +10,13 @@ use Rattle.ucd_facts.specs.declared.form.Bad.TheVariants.{V3}
 use Rattle.ucd_facts.specs.Expansion.{judged}
 use Rattle.ucd_points.specs.Limits.{point_count}
 use Rattle.ucd_facts.specs.Facts.{Sources, facts, given, is_hangul_syllable, hangul_mapping, Same, To}
-use Rattle.ucd_facts.specs.FactsLaws.{ImageIsSame, ImageIsOther, IsLV, IsLVT, HangulComposesBack, FactsAreCut}
+use Rattle.ucd_facts.specs.FactsLaws.{ImageIsSame, ImageIsOther, IsLV, IsLVT, HangulComposesBack, NumbersPastPointsAreUnassigned}
 
 pub facts_inside : (rows : Sources) (c : ℕ) → c < point_count → facts rows c ≡ given rows c
 unfolding facts
 facts_inside rows c lt = let inside : nat_lt c point_count ≡ true = lt-ltb c point_count lt in rw inside refl
 
-pub facts_outside : FactsAreCut
+pub facts_outside : NumbersPastPointsAreUnassigned
 unfolding facts
 facts_outside rows c le = let outside : nat_lt c point_count ≡ false = le-ltb c point_count le in rw outside refl
 

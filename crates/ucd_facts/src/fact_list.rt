@@ -40,7 +40,7 @@ impl FactView for ListOf<(Point, Facts)> {
     fn second(&self, y: Point) -> bool {
         'points: for number in 0..point_count() {
             if let Some(q) = Point::new(number)
-                && ends_with(self, y, q)
+                && is_composite_ending_with(self, y, q)
             {
                 return true;
             }
@@ -57,7 +57,7 @@ fn composes(list: &FactList, s: Point, y: Point, q: Point) -> bool
 }
 
 /// Whether a code point is a primary composite whose mapping has `y` as its second member.
-fn ends_with(list: &FactList, y: Point, q: Point) -> bool
+fn is_composite_ending_with(list: &FactList, y: Point, q: Point) -> bool
     ensures { result ≡ ends_with (facts_in list.now) y q }
 {
     is_primary(list, q) && matches!(list.facts(q).mapping, [_, b] if *b == y)

@@ -4,7 +4,7 @@ ghost use Rattle.std.specs.Prelude.{◌≡◌};
 ghost use Rattle.ucd_facts.specs.Facts.{unassigned};
 ghost use Rattle.ucd_facts.specs.FactList.{kept_facts};
 ghost use Rattle.ucd_facts.specs.Shown.{shown_facts};
-ghost use Rattle.ucd_facts.specs.Unmapped.{is_unmapped};
+ghost use Rattle.ucd_facts.specs.Unmapped.{is_unchanged_by_casing};
 
 use crate::category::Category;
 use crate::decomposition::Kind;
@@ -130,8 +130,8 @@ impl FactsRef<'_> {
     }
 
     /// Whether the point is its own image by each full case mapping, and by the folding. UAX #44, section 5.6.
-    pub fn is_unmapped(&self) -> bool
-        ensures { result ≡ is_unmapped (shown_facts self.now) }
+    pub fn is_unchanged_by_casing(&self) -> bool
+        ensures { result ≡ is_unchanged_by_casing (shown_facts self.now) }
     {
         self.lower.is_none() && self.upper.is_none() && self.title.is_none() && self.fold.is_none()
     }

@@ -1,6 +1,6 @@
 //! The laws of the facts of code points: each function here does nothing, and its contract is a law.
 
-ghost use Rattle.ucd_facts.specs.FactsLaws.{ImageIsSame, ImageIsOther, HangulComposesBack, FactsAreCut};
+ghost use Rattle.ucd_facts.specs.FactsLaws.{ImageIsSame, ImageIsOther, HangulComposesBack, NumbersPastPointsAreUnassigned};
 
 /// An image is `Same` exactly if a code point is mapped to itself alone.
 pub fn image_is_same()
@@ -18,6 +18,6 @@ pub fn hangul_composes_back()
 {}
 
 /// A number past the code points has the facts of a code point without a row.
-pub fn facts_are_cut()
-    ensures { FactsAreCut }
+pub fn numbers_past_points_are_unassigned()
+    ensures { NumbersPastPointsAreUnassigned }
 {}

@@ -14,16 +14,16 @@ use ucd_points::Point;
 pub fn same_facts(a: &FactsRef<'_>, b: &FactsRef<'_>) -> bool
     ensures { Decides result (shown_facts a.now ≡ shown_facts b.now) }
 {
-    has_same_row(a, b)
+    has_same_classification(a, b)
         && has_same_mapping(a, b)
         && has_same_simple(a, b)
         && has_same_images(a, b)
         && has_same_flags(a, b)
-        && has_same_marks(a, b)
+        && has_same_other_flags(a, b)
 }
 
 /// Whether two views show the same category, class and kind, and whether both points have a row.
-fn has_same_row(a: &FactsRef<'_>, b: &FactsRef<'_>) -> bool
+fn has_same_classification(a: &FactsRef<'_>, b: &FactsRef<'_>) -> bool
     ensures assigned { IsTrue result → a.now.assigned ≡ b.now.assigned }
     ensures category { IsTrue result → a.now.category ≡ b.now.category }
     ensures class { IsTrue result → a.now.class ≡ b.now.class }
@@ -91,7 +91,7 @@ fn has_same_flags(a: &FactsRef<'_>, b: &FactsRef<'_>) -> bool
 }
 
 /// Whether two views show the same of the other marks: in the middle of a word, and excluded from composition.
-fn has_same_marks(a: &FactsRef<'_>, b: &FactsRef<'_>) -> bool
+fn has_same_other_flags(a: &FactsRef<'_>, b: &FactsRef<'_>) -> bool
     ensures mid_word { IsTrue result → a.now.mid_word ≡ b.now.mid_word }
     ensures excluded { IsTrue result → a.now.excluded ≡ b.now.excluded }
     ensures same { shown_facts a.now ≡ shown_facts b.now → IsTrue result }

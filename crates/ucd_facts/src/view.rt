@@ -4,7 +4,7 @@ ghost use Rattle.std.specs.Prelude.{◌≡◌, ℕ};
 ghost use Rattle.ucd_facts.specs.Facts.{Facts};
 ghost use Rattle.ucd_facts.specs.Sets.{has_flag};
 ghost use Rattle.ucd_facts.specs.Shown.{image_shown, shown_facts};
-ghost use Rattle.ucd_facts.specs.Unmapped.{is_unmapped};
+ghost use Rattle.ucd_facts.specs.Unmapped.{is_unchanged_by_casing};
 ghost use Rattle.ucd_facts.specs.Composites.{pair_of, second_of};
 
 use crate::category::Category;
@@ -127,9 +127,9 @@ pub trait FactView {
     }
 
     /// Whether a code point is its own image by each full case mapping, and by the folding. UAX #44, section 5.6.
-    fn is_unmapped(&self, c: Point) -> bool
-        ensures { result ≡ is_unmapped (facts_of self.now c) }
+    fn is_unchanged_by_casing(&self, c: Point) -> bool
+        ensures { result ≡ is_unchanged_by_casing (facts_of self.now c) }
     {
-        self.facts(c).is_unmapped()
+        self.facts(c).is_unchanged_by_casing()
     }
 }

@@ -16,7 +16,7 @@ use Rattle.std.proofs.lemmas.Bool.{cases_lt, cases_order, cases_Bool, and_parts,
 use Rattle.std.proofs.lemmas.Slice.Eq.{bytes_eq-Decides}
 use Rattle.ucd_model.specs.Labels.{Label, same_label, begins, span_end, LabelSpan, span_from}
 use Rattle.ucd_model.specs.LabelLemmas.{span_end_run, same_label-true, IsRun, spans_before, labelled_before, run_plain, run_labelled}
-use Rattle.ucd_laws.specs.LabelLaws.{IsSpanAt, Covers, span_length, StretchesAreSpans, SpansLieBelow, SpansHaveOneLabel, SpansAreMaximal, SpansAscend, SpansDoNotTouch, SpansAreDisjoint, LabelledLieInASpan, OthersLieInNoSpan, LabelledIsTheirLength}
+use Rattle.ucd_laws.specs.LabelLaws.{IsSpanAt, Covers, span_length, StretchesAreSpans, SpansLieBelow, SpansHaveOneLabel, SpansAreMaximal, SpansAscend, SpansDoNotTouch, SpansAreDisjoint, LabelledLieInASpan, OthersLieInNoSpan, LabelledCountIsSpanTotal}
 
 -- ---- labels
 
@@ -309,5 +309,5 @@ total_from n f (suc fuel) at enough within edge sofar = elim (cases_lt at n) [
       total_from n f fuel end (omega arith) (omega arith) next_edge next
 ]
 
-pub labelled_is_their_length : LabelledIsTheirLength
+pub labelled_is_their_length : LabelledCountIsSpanTotal
 labelled_is_their_length n f = total_from n f n 0 (omega arith) (omega arith) (λ lt k e. absurd (omega arith)) refl

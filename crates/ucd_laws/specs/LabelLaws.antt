@@ -13,7 +13,7 @@
 -- SpansAreDisjoint          no number lies in two spans
 -- LabelledLieInASpan        every number below n that has a label lies in a span
 -- OthersLieInNoSpan         no number without a label lies in a span
--- LabelledIsTheirLength     the numbers below n that have a label are as many as lie in the spans together
+-- LabelledCountIsSpanTotal     the numbers below n that have a label are as many as lie in the spans together
 use Rattle.std.specs.Prelude.{◌≡◌, ◌≢◌, ◌≤◌, ◌<◌, ◌+◌, ◌-◌, ℕ, Some, None, IsSome, slice_get, sum_by}
 use Rattle.ucd_model.specs.Labels.{Label, LabelSpan, label_spans, labelled}
 
@@ -60,5 +60,5 @@ LabelledLieInASpan = (n : ℕ) (f : ℕ → Label) (c : ℕ) → c < n → IsSom
 abbrev pub OthersLieInNoSpan : Type 0
 OthersLieInNoSpan = (n : ℕ) (f : ℕ → Label) (i : ℕ) (s : LabelSpan) → IsSpanAt n f i s → (c : ℕ) → f c ≡ None → ¬ Covers s c
 
-abbrev pub LabelledIsTheirLength : Type 0
-LabelledIsTheirLength = (n : ℕ) (f : ℕ → Label) → labelled n f ≡ sum_by span_length (label_spans n f)
+abbrev pub LabelledCountIsSpanTotal : Type 0
+LabelledCountIsSpanTotal = (n : ℕ) (f : ℕ → Label) → labelled n f ≡ sum_by span_length (label_spans n f)

@@ -1,6 +1,6 @@
 //! The laws of maximal spans: each function here does nothing, and its contract is a law.
 
-ghost use Rattle.ucd_laws.specs.LabelLaws.{SpansLieBelow, SpansHaveOneLabel, SpansAreMaximal, StretchesAreSpans, SpansAscend, SpansDoNotTouch, SpansAreDisjoint, LabelledLieInASpan, OthersLieInNoSpan, LabelledIsTheirLength};
+ghost use Rattle.ucd_laws.specs.LabelLaws.{SpansLieBelow, SpansHaveOneLabel, SpansAreMaximal, StretchesAreSpans, SpansAscend, SpansDoNotTouch, SpansAreDisjoint, LabelledLieInASpan, OthersLieInNoSpan, LabelledCountIsSpanTotal};
 
 /// Every span has a number in it, and all its numbers are below the bound.
 pub fn spans_lie_below()
@@ -48,6 +48,6 @@ pub fn others_lie_in_no_span()
 {}
 
 /// The numbers that have a label are as many as lie in the spans together.
-pub fn labelled_is_their_length()
-    ensures { LabelledIsTheirLength }
+pub fn labelled_count_is_span_total()
+    ensures { LabelledCountIsSpanTotal }
 {}

@@ -10,7 +10,7 @@
 -- lines_behind                    the lines behind the first ones of a text are lines, if the three laws hold
 -- LinesAreUnique                  lines that keep these laws are the lines of what they give put together, so that a text has no
 --                                 others
--- ContentsAreItems                the contents of the lines are `contents`
+-- ContentsAreThoseOfItems                the contents of the lines are `contents`
 -- HexReadsPutHex                  what a code point is written in spells that code point
 use Rattle.std.proofs.Common.{◌≡◌, ◌≢◌, ℕ, ◌<◌, false, List, [], ◌∷◌, ◌++◌, map, Some, sym, ◌∙◌, append_assoc}
 use Rattle.std.specs.List.{list_any}
@@ -52,8 +52,8 @@ lines_behind bytes front (line ∷ lines) feeds ends told e = (record { no_line_
 abbrev pub LinesAreUnique : Type 0
 LinesAreUnique = (items : List LineItem) → AreLines items → items_of (joined items) ≡ items
 
-abbrev pub ContentsAreItems : Type 0
-ContentsAreItems = (bytes : List ℕ) → contents bytes ≡ map (λ item. item.content) (items_of bytes)
+abbrev pub ContentsAreThoseOfItems : Type 0
+ContentsAreThoseOfItems = (bytes : List ℕ) → contents bytes ≡ map (λ item. item.content) (items_of bytes)
 
 abbrev pub HexReadsPutHex : Type 0
 HexReadsPutHex = (c : ℕ) → c < 1114112 → point_of (hex_text c) ≡ Some c

@@ -50,10 +50,10 @@ pub fn put_span(span: Span, into: &mut Text) -> Result<(), Memory>
         return put_hex(span.lo, into);
     }
     if span.last() < 0x1_0000 {
-        return into.append(&short_pair(span.first(), span.last()));
+        return into.append(&four_digit_span(span.first(), span.last()));
     }
     if span.first() >= 0x1_0000 && span.last() < 0x10_0000 {
-        return into.append(&long_pair(span.first(), span.last()));
+        return into.append(&five_digit_span(span.first(), span.last()));
     }
     put_hex(span.lo, into)?;
     into.append(b"..")?;
@@ -101,7 +101,7 @@ fn six_digits(number: u32) -> [u8; 6]
 
 /// The digits of two code points below 10000, joined by `..`.
 #[tactic(auto, unfolding(ucd_points::specs::HexText::hex_text))]
-fn short_pair(first: u32, last: u32) -> [u8; 10]
+fn four_digit_span(first: u32, last: u32) -> [u8; 10]
     requires ordered { first ≤ last }
     requires short { last < 65536 }
     ensures { result ≡ hex_text first ++ codes ".." ++ hex_text last }
@@ -122,7 +122,7 @@ fn short_pair(first: u32, last: u32) -> [u8; 10]
 
 /// The digits of two code points from 10000 to before 100000, joined by `..`.
 #[tactic(auto, unfolding(ucd_points::specs::HexText::hex_text))]
-fn long_pair(first: u32, last: u32) -> [u8; 12]
+fn five_digit_span(first: u32, last: u32) -> [u8; 12]
     requires from { 65536 ≤ first }
     requires ordered { first ≤ last }
     requires below { last < 1048576 }

@@ -1,6 +1,6 @@
 //! Laws of lines and code points.
 
-ghost use Rattle.ucd_lines.specs.Laws.{ItemsJoin, EmptyTextHasNoLine, LinesAreUnique, NoLineFeedInside, OnlyTheLastIsUnended, EndingsAreToldApart, ContentsAreItems, HexReadsPutHex};
+ghost use Rattle.ucd_lines.specs.Laws.{ItemsJoin, EmptyTextHasNoLine, LinesAreUnique, NoLineFeedInside, OnlyTheLastIsUnended, EndingsAreToldApart, ContentsAreThoseOfItems, HexReadsPutHex};
 
 /// The contents and endings of the lines of a text, put together, give the text.
 pub fn items_join()
@@ -33,8 +33,8 @@ pub fn lines_are_unique()
 {}
 
 /// The contents of the lines of a text are the contents that the grammar of files speaks of.
-pub fn contents_are_items()
-    ensures { ContentsAreItems }
+pub fn contents_are_those_of_items()
+    ensures { ContentsAreThoseOfItems }
 {}
 
 /// The digits that a code point is written in spell that code point.

@@ -22,9 +22,9 @@ pub use hex_text::{compare_hex, put_hex, put_span};
 pub use item::{Ending, Item, join};
 pub use item_iter::Items;
 pub use laws::{
-    contents_are_items, empty_text_has_no_line, endings_are_told_apart, hex_reads_put_hex,
+    contents_are_those_of_items, empty_text_has_no_line, endings_are_told_apart, hex_reads_put_hex,
     items_join, lines_are_unique, no_line_feed_inside, only_the_last_is_unended,
 };
 pub use search::{cut, first_at};
 pub use split::{fields, items};
-pub use trivia::{is_trivia, missing_rest, takes_missing};
+pub use trivia::{has_missing_rows, is_trivia, missing_rest};

@@ -16,7 +16,7 @@ pub fn missing_rest(file: SourceFile, content: &[u8]) -> Option<&[u8]>
     ensures rest { option_map (λ rest. rest.now) result ≡ missing_rest file content.now }
     ensures shorter { IfSome result (λ rest. length rest.now ≤ length content.now) }
 {
-    if !takes_missing(file) {
+    if !has_missing_rows(file) {
         return None;
     }
     match unindented(content) {
@@ -31,11 +31,11 @@ pub fn missing_rest(file: SourceFile, content: &[u8]) -> Option<&[u8]>
 pub fn is_trivia(file: SourceFile, content: &[u8]) -> bool
     ensures { result ≡ is_trivia file content.now }
 {
-    is_comment(content) && missing_rest(file, content).is_none()
+    is_blank_or_comment(content) && missing_rest(file, content).is_none()
 }
 
 /// Whether a file has rows that are lines `# @missing:`: Scripts.txt and WordBreakProperty.txt. UAX #44, section 4.2.10.
-pub fn takes_missing(file: SourceFile) -> bool
+pub fn has_missing_rows(file: SourceFile) -> bool
     ensures { result ≡ takes_missing file }
 {
     matches!(file, SourceFile::Scripts | SourceFile::WordBreakProperty)
@@ -50,7 +50,7 @@ fn unindented(bytes: &[u8]) -> &[u8]
 }
 
 /// Whether a line is blank, or its first byte other than white space is `#`.
-fn is_comment(content: &[u8]) -> bool
+fn is_blank_or_comment(content: &[u8]) -> bool
     ensures { result ≡ is_comment content.now }
 {
     match unindented(content) {

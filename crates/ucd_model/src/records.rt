@@ -45,14 +45,14 @@ impl Record {
         ensures told { Decides result (kept_record self.now ≡ kept_record other.now) }
     {
         has_same_core(self, other)
-            && has_same_facts(self, other)
+            && has_same_classification(self, other)
             && has_same_checks(self, other)
             && has_same_folding(self, other)
     }
 }
 
 /// Whether two records are equal in what the row of UnicodeData.txt says.
-fn has_same_facts(a: &Record, b: &Record) -> bool
+fn has_same_classification(a: &Record, b: &Record) -> bool
     ensures category { IsTrue result → a.now.category ≡ b.now.category }
     ensures class { IsTrue result → a.now.class ≡ b.now.class }
     ensures kind { IsTrue result → a.now.kind ≡ b.now.kind }

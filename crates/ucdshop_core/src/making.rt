@@ -37,11 +37,11 @@ pub fn count_casefolds(bench: &Bench) -> usize
         ensures same { (k : ℕ) → c ≤ k → k ≤ result
             → bench_record bench.entry.now k ≡ bench_record bench.entry.now c }
     { bench.last_alike(c) };
-    count_passing(last_of, |c| is_listed(bench.record(c))) as usize
+    count_passing(last_of, |c| is_casefold_listed(bench.record(c))) as usize
 }
 
 /// Whether the section NFKC_CF lists a code point with this record.
-fn is_listed(shown: &Record) -> bool
+fn is_casefold_listed(shown: &Record) -> bool
     ensures { result ≡ is_some (casefold_listing.label (kept_record shown.now)) }
 {
     match &shown.casefold {

@@ -68,7 +68,7 @@ fn put_part(
         Part::Log => put_log(alloc, folder, work.carried, outputs),
         Part::Sets => put_sets(alloc, folder, work.carried, outputs),
         Part::Report => put_report(alloc, folder, work.breaks, outputs),
-        Part::Made => put_given(alloc, folder, work.made, outputs),
+        Part::Made => put_if_made(alloc, folder, work.made, outputs),
     }
 }
 
@@ -90,7 +90,7 @@ fn put_report(
 }
 
 /// Puts the source files and the script as they are made below a folder, if they are.
-fn put_given(
+fn put_if_made(
     alloc: Global,
     folder: &[u8],
     made: &Option<Made>,

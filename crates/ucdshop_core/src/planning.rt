@@ -113,7 +113,7 @@ fn plan_borrowed<L: Ledger>(
     ensures counts { SessionCounts (started bench.old.current) commands.now steps.old steps.new }
     ensures steps { commands.now ≡ [] → steps.new ≡ steps.old }
 {
-    let rows = counted_rows(job.made, bench)?;
+    let rows = made_row_count(job.made, bench)?;
     let carried = carry_out(alloc, bench, commands, steps)?;
     let breaks = breaks_since(alloc, earlier, bench)?;
     let work = Work {
@@ -126,7 +126,7 @@ fn plan_borrowed<L: Ledger>(
 }
 
 /// How many rows UnicodeData.txt has, if a release is made, since the summary then tells it. Otherwise 0.
-fn counted_rows(made: Option<u8>, bench: &Bench) -> Result<usize, Memory>
+fn made_row_count(made: Option<u8>, bench: &Bench) -> Result<usize, Memory>
     ensures { IfOk result (λ rows. CountsRows made rows bench.now.current) }
 {
     match made {

@@ -33,11 +33,11 @@ pub fn run<S: Shelf, K: Sink>(alloc: Global, words: &Texts, shelf: &mut S, out: 
     ensures { Promises ucdshop words.now (shelf_seen S.Shelf shelf.old shelf.new)
         (sink_seen K.Sink out.old out.new) result }
 {
-    run_anew::<S, K, Brand>(alloc, words, shelf, out, Blank::new(1))
+    run_with_new_counter::<S, K, Brand>(alloc, words, shelf, out, Blank::new(1))
 }
 
 /// [`run_counted`] with a new counter.
-fn run_anew<S: Shelf, K: Sink, L: Ledger>(
+fn run_with_new_counter<S: Shelf, K: Sink, L: Ledger>(
     alloc: Global,
     words: &Texts,
     shelf: &mut S,

@@ -16,7 +16,7 @@ pub fn job_of(words: &[Text]) -> Option<Job<'_>>
     ensures listed { MatchOption result ⊤ (λ job. IsListed (job_of job)) }
 {
     match words {
-        [word, first, output] => short_form(word, first, output),
+        [word, first, output] => job_of_three_words(word, first, output),
         [word, input, script, output] => apply_of(word, input, script, output),
         [word, input, script, output, previous] => {
             compare_of(word, input, script, output, previous)
@@ -26,7 +26,7 @@ pub fn job_of(words: &[Text]) -> Option<Job<'_>>
 }
 
 /// `derive DATA OUT` or `make NUMBER OUT`.
-fn short_form<'a>(word: &'a Text, first: &'a Text, output: &'a Text) -> Option<Job<'a>>
+fn job_of_three_words<'a>(word: &'a Text, first: &'a Text, output: &'a Text) -> Option<Job<'a>>
     ensures form { AsksFor result (form (word.now ∷ first.now ∷ output.now ∷ [])) }
     ensures listed { MatchOption result ⊤ (λ job. IsListed (job_of job)) }
 {

@@ -22,7 +22,7 @@ use ucd_model::Memory;
 /// again.
 ///
 /// - `Memory`: memory ran out.
-pub fn answer_run<'c>(
+pub fn answer_adjacent_questions<'c>(
     alloc: Global,
     bench: &Bench,
     kept: &mut QuestionCache,
@@ -42,14 +42,14 @@ pub fn answer_run<'c>(
 {
     kept.fill(alloc, bench)?;
     let asking = kept.asking(bench);
-    answer_first(alloc, &asking, line, text, behind, carried)
+    answer_first_and_leading(alloc, &asking, line, text, behind, carried)
 }
 
 /// Answers the question of this text, and the questions at the front of the commands behind it, and returns the commands
 /// that are left. `asking` answers questions on the bench.
 ///
 /// - `Memory`: memory ran out.
-fn answer_first<'c>(
+fn answer_first_and_leading<'c>(
     alloc: Global,
     asking: &Asking<'_>,
     line: u32,

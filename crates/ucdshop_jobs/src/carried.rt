@@ -7,7 +7,7 @@ ghost use Rattle.run_inputs.specs.GroupLines.{accepted_line, refused_line};
 ghost use Rattle.ucdshop_jobs.specs.Session.{set_line, unasked_line};
 ghost use Rattle.set_answers.specs.SetTexts.{members_in, set_section};
 
-use crate::log::{put_set, put_unasked};
+use crate::log::{put_answered_question, put_refused_question};
 use edit_session::Refused;
 use run_inputs::{put_accepted, put_refused};
 use set_questions::{AskFault, put_answer};
@@ -101,7 +101,7 @@ impl Carried {
         }) }
     {
         let count = put_answer(alloc, &mut self.sets, line, spans)?;
-        put_set(alloc, &mut self.log, line, count)?;
+        put_answered_question(alloc, &mut self.log, line, count)?;
         self.answered += 1;
         Ok(())
     }
@@ -123,7 +123,7 @@ impl Carried {
           answered = self.old.answered;
         }) }
     {
-        put_unasked(alloc, &mut self.log, line, fault)?;
+        put_refused_question(alloc, &mut self.log, line, fault)?;
         self.refused += 1;
         Ok(())
     }

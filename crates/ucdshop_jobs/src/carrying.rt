@@ -9,7 +9,7 @@ ghost use Rattle.ucdshop_jobs.specs.Counting.{CommandCounts, SessionCounts};
 ghost use Rattle.set_questions.specs.QuestionCache.{IsKept};
 ghost use Rattle.ucdshop_jobs.specs.Session.{session, started, step, step_by};
 
-use crate::answering::answer_run;
+use crate::answering::answer_adjacent_questions;
 use crate::carried::Carried;
 use edit_session::{ApplyStop, Bench};
 use release_rows::Op;
@@ -113,7 +113,7 @@ fn carry_first_commands<'c, L: Ledger>(
             Ok(behind)
         }
         What::Question(text) => {
-            answer_run(
+            answer_adjacent_questions(
                 alloc,
                 bench,
                 kept,

@@ -53,7 +53,7 @@ pub fn judge_inputs<L: Ledger>(
 {
     let same = is_same_release(job, held.as_slice());
     let bench = open_folder(alloc, job.folder, held, 0, steps)?;
-    judge_behind(alloc, job, held, bench, same, steps)
+    judge_script_and_earlier(alloc, job, held, bench, same, steps)
 }
 
 /// Whether there is an earlier release, and its source files are those of the release, byte for byte.
@@ -66,7 +66,7 @@ fn is_same_release(job: Job<'_>, held: &[Option<Text>]) -> bool
 
 /// Judges what is held behind the release, which this bench is over. `same` says that the earlier release is that release.
 #[tactic(auto, using(crate::specs::CountingLemmas::one_release))]
-fn judge_behind<L: Ledger>(
+fn judge_script_and_earlier<L: Ledger>(
     alloc: Global,
     job: Job<'_>,
     held: &mut Vec<Option<Text>>,

@@ -12,7 +12,12 @@ use ucd_model::{Memory, Text};
 /// members.
 ///
 /// - `Memory`: memory ran out.
-pub fn put_set(alloc: Global, text: &mut Text, line: u32, count: usize) -> Result<(), Memory>
+pub fn put_answered_question(
+    alloc: Global,
+    text: &mut Text,
+    line: u32,
+    count: usize,
+) -> Result<(), Memory>
     ensures { OnOk result (text.new ≡ text.old ++ set_line line count) }
 {
     put_decimal(alloc, line as usize, text)?;
@@ -24,7 +29,12 @@ pub fn put_set(alloc: Global, text: &mut Text, line: u32, count: usize) -> Resul
 /// Puts the line of a question that was refused: the number of the command's line, and why.
 ///
 /// - `Memory`: memory ran out.
-pub fn put_unasked(alloc: Global, text: &mut Text, line: u32, fault: AskFault) -> Result<(), Memory>
+pub fn put_refused_question(
+    alloc: Global,
+    text: &mut Text,
+    line: u32,
+    fault: AskFault,
+) -> Result<(), Memory>
     ensures { OnOk result (text.new ≡ text.old ++ unasked_line line fault) }
 {
     put_decimal(alloc, line as usize, text)?;

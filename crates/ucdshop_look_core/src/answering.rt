@@ -105,7 +105,7 @@ fn plan_of_answers(alloc: Global, asking: &Asking<'_>, questions: &[Text]) -> Re
     ensures { IfOk result (HasPlan (ask_ending questions.now asking.now)) }
 {
     let mut text = Text::new(alloc);
-    let refused = put_sections(alloc, asking, questions, &mut text)?;
+    let refused = put_sections_or_refusals(alloc, asking, questions, &mut text)?;
     Ok(Plan {
         outputs: Vec::new(alloc),
         summary: text,
@@ -116,7 +116,7 @@ fn plan_of_answers(alloc: Global, asking: &Asking<'_>, questions: &[Text]) -> Re
 /// Puts a section for each question, and answers whether one was refused.
 ///
 /// - `Memory`: memory ran out. A part of the sections may stand at the end of the text then.
-fn put_sections(
+fn put_sections_or_refusals(
     alloc: Global,
     asking: &Asking<'_>,
     questions: &[Text],
@@ -127,14 +127,14 @@ fn put_sections(
 {
     let mut refused = false;
     'questions: for question in questions {
-        let here = put_section(alloc, asking, question.as_slice(), text)?;
+        let here = put_section_or_refusal(alloc, asking, question.as_slice(), text)?;
         refused = refused || here;
     }
     Ok(refused)
 }
 
 /// Puts the section of a question, and answers whether it was refused.
-fn put_section(
+fn put_section_or_refusal(
     alloc: Global,
     asking: &Asking<'_>,
     question: &[u8],

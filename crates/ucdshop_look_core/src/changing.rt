@@ -102,7 +102,7 @@ fn plan_following_bench<L: Ledger>(
     ensures { IfOk result (HasPlan (stages_ending (stages bench.old.current commands.now))) }
 {
     let mut text = Text::new(alloc);
-    let refused = tell_commands(alloc, bench, earlier, commands, &mut text, steps)?;
+    let refused = tell_commands_or_refusals(alloc, bench, earlier, commands, &mut text, steps)?;
     Ok(Plan {
         outputs: Vec::new(alloc),
         summary: text,
@@ -114,7 +114,7 @@ fn plan_following_bench<L: Ledger>(
 /// records are those of the bench, and follow it.
 ///
 /// - `Memory`: memory ran out.
-fn tell_commands<L: Ledger>(
+fn tell_commands_or_refusals<L: Ledger>(
     alloc: Global,
     bench: &mut Bench,
     earlier: &mut EarlierRecords,
@@ -131,7 +131,7 @@ fn tell_commands<L: Ledger>(
 {
     let mut refused = false;
     'commands: for command in commands {
-        let here = tell_command(alloc, bench, earlier, command, text, steps)?;
+        let here = tell_command_or_refusal(alloc, bench, earlier, command, text, steps)?;
         refused = refused || here;
     }
     Ok(refused)
@@ -141,7 +141,7 @@ fn tell_commands<L: Ledger>(
 /// The earlier records are those of the bench, and follow it.
 ///
 /// - `Memory`: memory ran out.
-fn tell_command<L: Ledger>(
+fn tell_command_or_refusal<L: Ledger>(
     alloc: Global,
     bench: &mut Bench,
     earlier: &mut EarlierRecords,
@@ -161,7 +161,7 @@ fn tell_command<L: Ledger>(
         (SameValues (earlier_record earlier.new) (bench_record bench.new)) }
 {
     match &command.what {
-        What::Group(ops) => tell_group(
+        What::Group(ops) => tell_group_or_refusal(
             alloc,
             bench,
             earlier,
@@ -178,7 +178,7 @@ fn tell_command<L: Ledger>(
 /// of the bench, and follow it.
 ///
 /// - `Memory`: memory ran out.
-fn tell_group<L: Ledger>(
+fn tell_group_or_refusal<L: Ledger>(
     alloc: Global,
     bench: &mut Bench,
     earlier: &mut EarlierRecords,

@@ -63,7 +63,7 @@ fn ask_of(arguments: &[Text]) -> Option<Command<'_>>
     let [folder, questions @ ..] = arguments else {
         return None;
     };
-    if are_some(questions) && are_one_line(questions) {
+    if has_allowed_count(questions) && are_one_line(questions) {
         Some(Command::Ask {
             folder: folder.as_slice(),
             questions,
@@ -80,7 +80,7 @@ fn show_of(arguments: &[Text]) -> Option<Command<'_>>
     let [folder, points @ ..] = arguments else {
         return None;
     };
-    if are_some(points) && name_points(points) {
+    if has_allowed_count(points) && name_points(points) {
         Some(Command::Show {
             folder: folder.as_slice(),
             points,
@@ -158,7 +158,7 @@ fn names_point(word: &[u8]) -> bool
 }
 
 /// Whether there is one word or more, up to the limit.
-fn are_some(words: &[Text]) -> bool
+fn has_allowed_count(words: &[Text]) -> bool
     ensures { result ≡ are_some words.now }
 {
     0 < words.len() && words.len() <= ASKED_LIMIT

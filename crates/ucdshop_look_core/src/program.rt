@@ -34,11 +34,11 @@ pub fn run_look<S: Shelf, K: Sink>(
         (sink_seen K.Sink out.old out.new) result }
     ensures unchanged { IsTrue S.tells → SameContents (S.holds shelf.old) (S.holds shelf.new) }
 {
-    run_anew::<S, K, Brand>(alloc, words, shelf, out, Blank::new(1))
+    run_with_new_counter::<S, K, Brand>(alloc, words, shelf, out, Blank::new(1))
 }
 
 /// [`run_look`] with a new counter of the code points that are derived.
-fn run_anew<S: Shelf, K: Sink, L: Ledger>(
+fn run_with_new_counter<S: Shelf, K: Sink, L: Ledger>(
     alloc: Global,
     words: &Texts,
     shelf: &mut S,

@@ -39,7 +39,7 @@ fn records_told(alloc: Global, bench: &Bench, words: &[Text]) -> Result<Vec<Poin
 {
     let mut told = Vec::new(alloc);
     'words: for word in words {
-        put_word(alloc, bench, word.as_slice(), &mut told)?;
+        put_named_record(alloc, bench, word.as_slice(), &mut told)?;
     }
     Ok(told)
 }
@@ -47,7 +47,7 @@ fn records_told(alloc: Global, bench: &Bench, words: &[Text]) -> Result<Vec<Poin
 /// Puts the record of the code point that a word names, if it names one.
 ///
 /// - `Memory`: memory ran out.
-fn put_word(
+fn put_named_record(
     alloc: Global,
     bench: &Bench,
     word: &[u8],

@@ -16,7 +16,7 @@ use ucd_model::{Memory, Text, Texts};
 /// The paths of the source files of a folder, in their order, and that of a file.
 ///
 /// - `Memory`: memory ran out.
-pub fn paths_with(alloc: Global, input: &[u8], second: &[u8]) -> Result<Texts, Memory>
+pub fn source_paths_and_file(alloc: Global, input: &[u8], second: &[u8]) -> Result<Texts, Memory>
     ensures { IfOk result (λ paths. paths ≡ sources_in input.now ++ second.now ∷ []) }
 {
     let mut paths = source_paths(alloc, input)?;

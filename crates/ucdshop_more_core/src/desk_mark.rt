@@ -92,7 +92,7 @@ fn are_a_group(commands: &[Command]) -> bool
 }
 
 /// The operations of the first command.
-pub fn ops_of(commands: &[Command]) -> &[Op]
+pub fn ops_of_first_command(commands: &[Command]) -> &[Op]
     requires { All IsWellFormed commands.now }
     ensures ops { result.now ≡ ops_of commands.now }
     ensures ready { AreWellFormed result.now }

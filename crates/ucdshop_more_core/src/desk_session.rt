@@ -10,7 +10,7 @@ ghost use Rattle.ucdshop_more_core.specs.Sessions.{AreWellFormed};
 ghost use Rattle.ucdshop_more_core.specs.Turns.{request_turn, request_turns};
 
 use crate::desk_log::DeskLog;
-use crate::desk_mark::{DeskMark, ops_of};
+use crate::desk_mark::{DeskMark, ops_of_first_command};
 use crate::requests::Request;
 use bench_editors::{Desk, Reply};
 use std::alloc::Global;
@@ -59,7 +59,7 @@ fn reply_to<L: Ledger>(
         DeskMark::Open { editor } => desk.enter(editor),
         DeskMark::Leave { editor } => Ok(desk.leave(editor)),
         DeskMark::Propose { editor, base } => {
-            let group = ops_of(request.commands.as_slice());
+            let group = ops_of_first_command(request.commands.as_slice());
             desk.propose(editor, base, group, steps)
         }
     }

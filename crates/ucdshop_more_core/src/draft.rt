@@ -11,7 +11,7 @@ ghost use Rattle.run_inputs.specs.Paths.{sources_in};
 ghost use Rattle.ucdshop_more_core.specs.Drafts.{AreWellFormed, draft_of, draft_verdict, with_moves};
 ghost use Rattle.ucdshop_more_core.specs.Moves.{all_moves, moves_told};
 
-use crate::beside::{paths_with, piece_refusal, refusal};
+use crate::beside::{piece_refusal, refusal, source_paths_and_file};
 use crate::sections::{Sections, read_sections};
 use edit_session::Bench;
 use run_endings::{Stop, read_inputs};
@@ -36,7 +36,7 @@ pub struct Drafted {
 /// - `Refused(line)`: the first of these is refused: a file of the folder, a code point, the script.
 /// - `ReadFailed(line)`: a file could not be read.
 /// - `Memory`: memory ran out.
-pub fn read_draft<S: Shelf, L: Ledger>(
+pub fn read_undo_inputs<S: Shelf, L: Ledger>(
     alloc: Global,
     input: &[u8],
     script: &[u8],
@@ -54,16 +54,16 @@ pub fn read_draft<S: Shelf, L: Ledger>(
         (shelf_seen S.Shelf shelf.old shelf.new) }
     ensures only_read { OnlyRead (shelf_seen S.Shelf shelf.old shelf.new) }
 {
-    let paths = paths_with(alloc, input, script)?;
+    let paths = source_paths_and_file(alloc, input, script)?;
     let mut held = read_inputs(alloc, shelf, paths.as_slice())?;
-    judge_draft(alloc, input, script, &mut held, steps)
+    judge_undo_inputs(alloc, input, script, &mut held, steps)
 }
 
 /// Judges the source files of a folder, and behind them the script.
 ///
 /// - `Refused(line)`: the first of these is refused.
 /// - `Memory`: memory ran out.
-fn judge_draft<L: Ledger>(
+fn judge_undo_inputs<L: Ledger>(
     alloc: Global,
     input: &[u8],
     script: &[u8],
@@ -74,14 +74,14 @@ fn judge_draft<L: Ledger>(
     ensures ready { IfOk result (λ drafted. AreWellFormed drafted.sections) }
 {
     let bench = open_folder(alloc, input, held, 0, steps)?;
-    judge_behind(alloc, script, held.as_slice(), bench)
+    judge_script_file(alloc, script, held.as_slice(), bench)
 }
 
 /// Judges the script, which is held behind the release that this bench is over.
 ///
 /// - `Refused(line)`: the script is refused.
 /// - `Memory`: memory ran out.
-fn judge_behind(
+fn judge_script_file(
     alloc: Global,
     script: &[u8],
     held: &[Option<Text>],

@@ -13,7 +13,7 @@ use crate::chaining::{Chained, chain_folders};
 use crate::command::Command;
 use crate::conform_plan::conform_plan;
 use crate::desk_plan::desk_plan;
-use crate::draft::read_draft;
+use crate::draft::read_undo_inputs;
 use crate::outputs::ages_plan;
 use crate::sitting::read_sitting;
 use crate::trial::read_trial;
@@ -168,7 +168,7 @@ fn plan_undo<S: Shelf, L: Ledger>(
         (S.holds shelf.old)) (shelf_seen S.Shelf shelf.old shelf.new)) }
     ensures only_read { OnlyRead (shelf_seen S.Shelf shelf.old shelf.new) }
 {
-    match read_draft(alloc, input, script, shelf, steps) {
+    match read_undo_inputs(alloc, input, script, shelf, steps) {
         Ok(drafted) => Ok(undo_plan(alloc, output, drafted, depth, steps)?),
         Err(stop) => Err(stop),
     }

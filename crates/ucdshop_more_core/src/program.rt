@@ -38,11 +38,11 @@ pub fn run_more<S: Shelf, K: Sink>(
         → ReadsInOrder words.now (shelf_seen S.Shelf shelf.old shelf.new)
         (sink_seen K.Sink out.old out.new) }
 {
-    run_anew::<S, K, Brand>(alloc, words, shelf, out, Blank::new(1))
+    run_with_new_counter::<S, K, Brand>(alloc, words, shelf, out, Blank::new(1))
 }
 
 /// [`run_more`] with a new counter of the code points that are derived.
-fn run_anew<S: Shelf, K: Sink, L: Ledger>(
+fn run_with_new_counter<S: Shelf, K: Sink, L: Ledger>(
     alloc: Global,
     words: &Texts,
     shelf: &mut S,

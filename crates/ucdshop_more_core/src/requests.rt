@@ -13,10 +13,10 @@ ghost use Rattle.ucdshop_more_core.specs.Sessions.{AreFew, AreWellFormed};
 ghost use Rattle.ucdshop_more_core.specs.Turns.{MarkedAs, PutAs, TurnAs, TurnsAs, before_marks, behind_mark, piece_turn, request_turns, turns_or_fault};
 
 use crate::desk_mark::{DeskMark, fits, mark_of};
-use script_lines::{Commands, groups_are_ready};
+use script_lines::{Commands, groups_are_well_formed};
 use script_pieces::{
-    Mark, Piece, PieceRule, PieceStop, misfit_line, piece_commands, pieces_are_few, pieces_fit,
-    pieces_of,
+    Mark, Piece, PieceRule, PieceStop, misfit_line, piece_commands, piece_line_numbers_fit,
+    pieces_are_few, pieces_of,
 };
 use std::alloc::Global;
 use ucd_model::ListOf;
@@ -46,7 +46,7 @@ pub fn read_requests(alloc: Global, bytes: &[u8]) -> Result<Requests, PieceStop>
     ensures ready { IfOk result AreWellFormed }
     ensures few { IfOk result AreFew }
 {
-    pieces_fit();
+    piece_line_numbers_fit();
     pieces_are_few();
     let mut requests = Requests::new(alloc);
     'pieces: for piece in pieces_of(bytes) {
@@ -88,7 +88,7 @@ fn piece_request(alloc: Global, piece: Piece<'_>) -> Result<Option<Request>, Pie
             let request = marked_request(alloc, mark, piece)?;
             Ok(Some(request))
         }
-        None => nothing_before(alloc, piece),
+        None => refuse_commands_before_mark(alloc, piece),
     }
 }
 
@@ -100,7 +100,7 @@ fn marked_request(alloc: Global, mark: Mark<'_>, piece: Piece<'_>) -> Result<Req
         (piece_script (piece_of piece.entry))) }
     ensures ready { IfOk result (λ request. All IsWellFormed request.commands) }
 {
-    groups_are_ready();
+    groups_are_well_formed();
     let fault = PieceStop::Fault {
         line: mark.line,
         rule: PieceRule::E7,
@@ -121,7 +121,10 @@ fn marked_request(alloc: Global, mark: Mark<'_>, piece: Piece<'_>) -> Result<Req
 }
 
 /// Sees that no command stands before the first mark.
-fn nothing_before(alloc: Global, piece: Piece<'_>) -> Result<Option<Request>, PieceStop>
+fn refuse_commands_before_mark(
+    alloc: Global,
+    piece: Piece<'_>,
+) -> Result<Option<Request>, PieceStop>
     requires { piece.first_line + length piece.body.now < 2 ^ 32 }
     ensures turn { TurnAs result (and_then (piece_script (piece_of piece.entry))
         (before_marks (piece_of piece.entry))) }

@@ -12,9 +12,9 @@ ghost use Rattle.ucdshop_more_core.specs.Drafts.{AreWellFormed};
 ghost use Rattle.ucdshop_more_core.specs.Moves.{PutAs, SectionAs, SectionsAs, all_moves, are_groups, is_undo, mark_line, moves_by, moves_or_fault, piece_moves};
 
 use crate::groups::is_group;
-use script_lines::{Command, Commands, groups_are_ready};
+use script_lines::{Command, Commands, groups_are_well_formed};
 use script_pieces::{
-    Piece, PieceRule, PieceStop, misfit_line, piece_commands, pieces_fit, pieces_of,
+    Piece, PieceRule, PieceStop, misfit_line, piece_commands, piece_line_numbers_fit, pieces_of,
 };
 use std::alloc::Global;
 use ucd_model::ListOf;
@@ -41,7 +41,7 @@ pub fn read_sections(alloc: Global, bytes: &[u8]) -> Result<Sections, PieceStop>
     ensures moves { SectionsAs result (moves_or_fault bytes.now) }
     ensures ready { IfOk result AreWellFormed }
 {
-    pieces_fit();
+    piece_line_numbers_fit();
     let mut sections = Sections::new(alloc);
     'pieces: for piece in pieces_of(bytes) {
         put_section(alloc, piece, &mut sections)?;
@@ -93,7 +93,7 @@ fn section_by(alloc: Global, piece: Piece<'_>, undo: Option<u32>) -> Result<Sect
         (moves_by (piece_of piece.entry) (piece_script (piece_of piece.entry))) }
     ensures ready { IfOk result (λ section. All IsWellFormed section.commands) }
 {
-    groups_are_ready();
+    groups_are_well_formed();
     let commands = piece_commands(alloc, piece)?;
     if are_groups(commands.as_slice()) {
         Ok(Section { undo, commands })

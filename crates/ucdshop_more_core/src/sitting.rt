@@ -11,7 +11,7 @@ ghost use Rattle.run_inputs.specs.Paths.{sources_in};
 ghost use Rattle.ucdshop_more_core.specs.Sessions.{AreFew, AreWellFormed, session_of, session_verdict, with_turns};
 ghost use Rattle.ucdshop_more_core.specs.Turns.{request_turns, turns_told};
 
-use crate::beside::{paths_with, piece_refusal, refusal};
+use crate::beside::{piece_refusal, refusal, source_paths_and_file};
 use crate::requests::{Requests, read_requests};
 use edit_session::Bench;
 use run_endings::{Stop, read_inputs};
@@ -55,7 +55,7 @@ pub fn read_sitting<S: Shelf, L: Ledger>(
         (shelf_seen S.Shelf shelf.old shelf.new) }
     ensures only_read { OnlyRead (shelf_seen S.Shelf shelf.old shelf.new) }
 {
-    let paths = paths_with(alloc, input, events)?;
+    let paths = source_paths_and_file(alloc, input, events)?;
     let mut held = read_inputs(alloc, shelf, paths.as_slice())?;
     judge_sitting(alloc, input, events, &mut held, steps)
 }
@@ -77,14 +77,14 @@ fn judge_sitting<L: Ledger>(
     ensures few { IfOk result (λ sitting. AreFew sitting.requests) }
 {
     let bench = open_folder(alloc, input, held, 0, steps)?;
-    judge_behind(alloc, events, held.as_slice(), bench)
+    judge_event_file(alloc, events, held.as_slice(), bench)
 }
 
 /// Judges the file of events, which is held behind the release that this bench is over.
 ///
 /// - `Refused(line)`: the file of events is refused.
 /// - `Memory`: memory ran out.
-fn judge_behind(
+fn judge_event_file(
     alloc: Global,
     events: &[u8],
     held: &[Option<Text>],

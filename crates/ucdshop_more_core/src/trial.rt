@@ -11,7 +11,7 @@ ghost use Rattle.run_inputs.specs.Paths.{sources_in};
 ghost use Rattle.run_inputs.specs.RefusalLines.{refused};
 ghost use Rattle.ucdshop_more_core.specs.Trials.{TellsLine, case_rule_code, cases_told, trial_verdict, with_cases};
 
-use crate::beside::{paths_with, refusal};
+use crate::beside::{refusal, source_paths_and_file};
 use edit_session::Bench;
 use norm_conformance::{CaseRule, CaseStop, Cases, read_cases};
 use run_endings::{Stop, read_inputs};
@@ -52,7 +52,7 @@ pub fn read_trial<S: Shelf, L: Ledger>(
         (shelf_seen S.Shelf shelf.old shelf.new) }
     ensures only_read { OnlyRead (shelf_seen S.Shelf shelf.old shelf.new) }
 {
-    let paths = paths_with(alloc, input, tests)?;
+    let paths = source_paths_and_file(alloc, input, tests)?;
     let mut held = read_inputs(alloc, shelf, paths.as_slice())?;
     judge_trial(alloc, input, tests, &mut held, steps)
 }
@@ -71,14 +71,14 @@ fn judge_trial<L: Ledger>(
     ensures { ToldAs (λ trial. trial) result (trial_verdict input.now tests.now held.old.items) }
 {
     let bench = open_folder(alloc, input, held, 0, steps)?;
-    judge_behind(alloc, tests, held.as_slice(), bench)
+    judge_case_file(alloc, tests, held.as_slice(), bench)
 }
 
 /// Judges the file of cases, which is held behind the release that this bench is over.
 ///
 /// - `Refused(line)`: the file of cases is refused.
 /// - `Memory`: memory ran out.
-fn judge_behind(
+fn judge_case_file(
     alloc: Global,
     tests: &[u8],
     held: &[Option<Text>],

@@ -73,7 +73,7 @@ impl UndoLog {
     /// One more group was taken back: the line of the mark, and how many records changed.
     ///
     /// - `Memory`: memory ran out, or there are 2^64 such marks.
-    pub fn take_back(&mut self, alloc: Global, line: u32, count: usize) -> Result<(), Memory>
+    pub fn note_undone(&mut self, alloc: Global, line: u32, count: usize) -> Result<(), Memory>
         ensures { OnOk result (self.new ≡ record {
           text = self.old.text ++ undone_line line count;
           accepted = self.old.accepted;
@@ -90,7 +90,7 @@ impl UndoLog {
     /// There was nothing to take back: the line of the mark.
     ///
     /// - `Memory`: memory ran out, or there are 2^64 such marks.
-    pub fn take_nothing(&mut self, alloc: Global, line: u32) -> Result<(), Memory>
+    pub fn note_nothing_to_undo(&mut self, alloc: Global, line: u32) -> Result<(), Memory>
         ensures { OnOk result (self.new ≡ record {
           text = self.old.text ++ nothing_line line;
           accepted = self.old.accepted;

@@ -34,7 +34,7 @@ pub fn make_moves<L: Ledger>(
 {
     let mut log = UndoLog::new(alloc);
     'sections: for section in sections {
-        make_section(alloc, history, section, &mut log, steps)?;
+        make_section_moves(alloc, history, section, &mut log, steps)?;
     }
     Ok(log)
 }
@@ -42,7 +42,7 @@ pub fn make_moves<L: Ledger>(
 /// Makes the moves of a section: an undo if it stands behind a mark, and then its groups.
 ///
 /// - `Memory`: memory ran out.
-fn make_section<L: Ledger>(
+fn make_section_moves<L: Ledger>(
     alloc: Global,
     history: &mut History,
     section: &Section,
@@ -73,8 +73,8 @@ fn take_back<L: Ledger>(
         ≡ after_move (course_of history.old log.old) (TakeBack line)) }
 {
     match history.undo(alloc, steps)? {
-        Undone::Back(accepted) => log.take_back(alloc, line, accepted.changed.len()),
-        Undone::Nothing => log.take_nothing(alloc, line),
+        Undone::Back(accepted) => log.note_undone(alloc, line, accepted.changed.len()),
+        Undone::Nothing => log.note_nothing_to_undo(alloc, line),
     }
 }
 

@@ -16,7 +16,7 @@ use Rattle.ucd_facts.specs.declared.category.Category.TheVariants.{Cn}
 use Rattle.ucd_points.specs.declared.files.SourceFile.TheVariants.{UnicodeData}
 use Rattle.ucd_facts.specs.declared.row.DataRow.{DataRow}
 use Rattle.ucd_facts.specs.declared.row.Row.TheVariants.{Unit as DataLine, Value as ValueLine, Exclusion as ExclusionLine, Fold as FoldLine, Casing as CasingLine, Alias as AliasLine, Missing as MissingLine}
-use Rattle.source_rows.specs.Laws.{RowsAreOk, RowsAreRead}
+use Rattle.source_rows.specs.Laws.{PossibleRowsAreReadable, RowsAreRead}
 use Rattle.release_rows.specs.FileItems.{FileItem, onto_rows, rows_in, Row}
 use Rattle.release_rows.specs.Loading.{content_row}
 use Rattle.release_rows.specs.Releases.{AreKept, AreKeptBelow}
@@ -26,7 +26,7 @@ AssignedHaveCategories rows = (c : ℕ) → c < point_count → is_some (data_ro
 
 -- ---- rows that are kept
 
-module _ (read : RowsAreRead) (ok : RowsAreOk) where
+module _ (read : RowsAreRead) (ok : PossibleRowsAreReadable) where
   rows_ok : (above items : List FileItem) → AreKeptBelow UnicodeData above items → All (RowOk UnicodeData) (rows_in items)
   rows_ok above [] kept = All-nil (RowOk UnicodeData)
   rows_ok above (item ∷ items) kept = by item.row kept.0.is_read (rows_ok (above ++ item ∷ []) items kept.1)
@@ -67,7 +67,7 @@ assigned_in c (CasingLine row ∷ rows) ok = assigned_in c rows (All-tail (RowOk
 assigned_in c (AliasLine row ∷ rows) ok = assigned_in c rows (All-tail (RowOk UnicodeData) (AliasLine row) rows ok)
 assigned_in c (MissingLine row ∷ rows) ok = assigned_in c rows (All-tail (RowOk UnicodeData) (MissingLine row) rows ok)
 
-pub assigned_have_categories : (rows : Sources) (items : List FileItem) → rows UnicodeData ≡ rows_in items → RowsAreRead → RowsAreOk → AreKept UnicodeData items → AssignedHaveCategories rows
+pub assigned_have_categories : (rows : Sources) (items : List FileItem) → rows UnicodeData ≡ rows_in items → RowsAreRead → PossibleRowsAreReadable → AreKept UnicodeData items → AssignedHaveCategories rows
 assigned_have_categories rows items same read ok kept c lt =
     let all : All (RowOk UnicodeData) (rows UnicodeData) = rw same (rows_ok read ok [] items kept) in
     assigned_in c (rows UnicodeData) all ∙ ap (λ G. not (category_place G.category == category_place Cn)) (sym (facts_inside rows c lt))

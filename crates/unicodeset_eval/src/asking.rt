@@ -114,7 +114,7 @@ impl<'b, B: Records> TestSets for SetIndex<'b, B> {
             Test::Listed(number, wanted) => {
                 numbered_set(alloc, self.rows.listed.as_slice(), number, wanted)
             }
-            _ => self.set_over(alloc, test),
+            _ => self.set_of_derived_test(alloc, test),
         }
     }
 }

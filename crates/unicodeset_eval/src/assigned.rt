@@ -4,7 +4,7 @@ ghost use Rattle.release_rows.specs.Releases.{rows_now};
 ghost use Rattle.unicodeset_eval.specs.Assigned.{AssignedHaveCategories};
 
 use release_rows::Release;
-use source_rows::{rows_are_ok, rows_are_read};
+use source_rows::{possible_rows_are_readable, rows_are_read};
 use ucd_model::SourceFile;
 
 /// A row of UnicodeData.txt covers a code point exactly if its category is not Cn.
@@ -12,6 +12,6 @@ pub(crate) fn assigned_have_categories(release: &Release)
     ensures { AssignedHaveCategories (rows_now release.now) }
 {
     rows_are_read();
-    rows_are_ok();
+    possible_rows_are_readable();
     let _rows = release.rows(SourceFile::UnicodeData);
 }

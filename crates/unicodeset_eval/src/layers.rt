@@ -20,7 +20,7 @@ use std::alloc::Global;
 use ucd_model::{Memory, Spans};
 
 /// Whether a row has a number other than 0, that of the default.
-pub(crate) fn gives_others(rows: &[NumberedRow]) -> bool
+pub(crate) fn has_value_beside_default(rows: &[NumberedRow]) -> bool
     ensures { result ≡ list_any is_other rows.now }
 {
     rows.iter().any(|row| row.number > 0)

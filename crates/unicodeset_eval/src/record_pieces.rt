@@ -80,11 +80,11 @@ pub(crate) fn values_of(shown: &Record) -> PropertyValues
 fn are_same(a: &PropertyValues, b: &PropertyValues) -> bool
     ensures { IsTrue result → values_record a.now ≡ values_record b.now }
 {
-    have_same_row(a, b) && have_same_checks(a, b)
+    have_same_row_and_core(a, b) && have_same_checks(a, b)
 }
 
 /// Whether what the row of UnicodeData.txt says and the core properties are the same.
-fn have_same_row(a: &PropertyValues, b: &PropertyValues) -> bool
+fn have_same_row_and_core(a: &PropertyValues, b: &PropertyValues) -> bool
     ensures category { IsTrue result → a.now.category ≡ b.now.category }
     ensures class { IsTrue result → a.now.class ≡ b.now.class }
     ensures kind { IsTrue result → a.now.kind ≡ b.now.kind }

@@ -12,7 +12,7 @@ ghost use Rattle.unicodeset_eval.specs.Tests.{is_listed, is_numbered};
 
 use crate::apart::rows_are_apart;
 use crate::point_set::PointSet;
-use crate::row_sets::{RowSets, listed_sets, sets_behind};
+use crate::row_sets::{RowSets, listed_sets, sets_behind_default};
 use property_aliases::{Edited, FileValues, ValueNumbers};
 use release_rows::Release;
 use std::alloc::Global;
@@ -21,7 +21,7 @@ use ucd_model::{Memory, SourceFile};
 /// The sets of the values of a file, of which number 0 is the default. Those that are kept stay unless the file was edited.
 ///
 /// - `Memory`: memory ran out.
-fn behind_again(
+fn renewed_sets_behind_default(
     alloc: Global,
     values: &FileValues,
     edited: bool,
@@ -39,14 +39,14 @@ fn behind_again(
     if !edited {
         return Ok(kept);
     }
-    let sets = sets_behind(alloc, values)?;
+    let sets = sets_behind_default(alloc, values)?;
     Ok(sets)
 }
 
 /// The sets of the values of PropList.txt. Those that are kept stay unless it was edited.
 ///
 /// - `Memory`: memory ran out.
-fn listed_again(
+fn renewed_listed_sets(
     alloc: Global,
     values: &FileValues,
     edited: bool,
@@ -86,9 +86,19 @@ impl RowSets {
             breaks,
             listed,
         } = self;
-        let scripts = behind_again(alloc, numbers.scripts(), edited.scripts, scripts)?;
-        let breaks = behind_again(alloc, numbers.breaks(), edited.breaks, breaks)?;
-        let listed = listed_again(alloc, numbers.listed(), edited.listed, listed)?;
+        let scripts = renewed_sets_behind_default(
+            alloc,
+            numbers.scripts(),
+            edited.scripts,
+            scripts,
+        )?;
+        let breaks = renewed_sets_behind_default(
+            alloc,
+            numbers.word_breaks(),
+            edited.breaks,
+            breaks,
+        )?;
+        let listed = renewed_listed_sets(alloc, numbers.listed(), edited.listed, listed)?;
         Ok(RowSets {
             scripts,
             breaks,

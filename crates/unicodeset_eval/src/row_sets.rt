@@ -20,7 +20,7 @@ ghost use Rattle.unicodeset_eval.specs.Tests.{is_listed, is_numbered};
 ghost use Rattle.unicodeset_eval.specs.ValueRows.{covers};
 
 use crate::apart::rows_are_apart;
-use crate::layers::{gives_others, layered_spans};
+use crate::layers::{has_value_beside_default, layered_spans};
 use crate::numbers::{row_spans, spans_by_number};
 use crate::point_set::PointSet;
 use crate::unions::union_of;
@@ -106,7 +106,7 @@ fn add_at(
 /// row covers.
 ///
 /// - `Memory`: memory ran out.
-fn plain_sets(alloc: Global, values: &FileValues) -> Result<Vec<PointSet>, Memory>
+fn unlayered_sets(alloc: Global, values: &FileValues) -> Result<Vec<PointSet>, Memory>
     requires some { 0 < length values.now.names.keys }
     requires missing { list_any is_other values.now.missing.items ≡ false }
     ensures { IfOk result (λ sets. (default : List ℕ) (rows : List Row)
@@ -137,19 +137,22 @@ fn layered_sets(alloc: Global, values: &FileValues) -> Result<Vec<PointSet>, Mem
 /// The sets of the values of a file, of which number 0 is the default.
 ///
 /// - `Memory`: memory ran out.
-pub(crate) fn sets_behind(alloc: Global, values: &FileValues) -> Result<Vec<PointSet>, Memory>
+pub(crate) fn sets_behind_default(
+    alloc: Global,
+    values: &FileValues,
+) -> Result<Vec<PointSet>, Memory>
     requires some { 0 < length values.now.names.keys }
     ensures { IfOk result (λ sets. (default : List ℕ) (rows : List Row)
         → AreValues values.now (numbered default rows) rows → AreValuesApart rows → (i c : ℕ)
         → c < 1114112 → has_at sets.items i c
         ≡ is_numbered (numbered default rows) i (value_at rows default c)) }
 {
-    if gives_others(values.missing()) {
+    if has_value_beside_default(values.missing()) {
         let sets = layered_sets(alloc, values)?;
         return Ok(sets);
     }
     // usually they give the default, and nothing needs to be painted
-    let sets = plain_sets(alloc, values)?;
+    let sets = unlayered_sets(alloc, values)?;
     Ok(sets)
 }
 
@@ -174,8 +177,8 @@ impl RowSets {
     {
         rows_are_apart(release, SourceFile::Scripts);
         rows_are_apart(release, SourceFile::WordBreakProperty);
-        let scripts = sets_behind(alloc, numbers.scripts())?;
-        let breaks = sets_behind(alloc, numbers.breaks())?;
+        let scripts = sets_behind_default(alloc, numbers.scripts())?;
+        let breaks = sets_behind_default(alloc, numbers.word_breaks())?;
         let listed = listed_sets(alloc, numbers.listed())?;
         Ok(RowSets {
             scripts,

@@ -126,7 +126,7 @@ fn edges_of_test<F: Fn(&PropertyValues) -> bool>(
 /// asked most have a loop each, which does not ask at each piece which test it is.
 ///
 /// - `Memory`: memory ran out.
-fn test_turns(
+fn derived_test_edges(
     alloc: Global,
     pieces: &[RecordRun],
     test: Test,
@@ -154,14 +154,14 @@ impl<'b, B: Records> SetIndex<'b, B> {
     /// The set of Assigned or of a test of derived properties. Each piece of equal records is looked at once.
     ///
     /// - `Memory`: memory ran out.
-    pub(crate) fn set_over(&self, alloc: Global, test: Test) -> Result<PointSet, Memory>
+    pub(crate) fn set_of_derived_test(&self, alloc: Global, test: Test) -> Result<PointSet, Memory>
         ensures { IfOk result (λ set. (c : ℕ)
             → has set c ≡ (nat_lt c point_count
             && passes_test test (B.record_of self.now.bench.now c))) }
     {
         let pieces = self.pieces;
         let has_zero = passes_at_zero(test, pieces);
-        let edges = test_turns(alloc, pieces, test, has_zero)?;
+        let edges = derived_test_edges(alloc, pieces, test, has_zero)?;
         Ok(PointSet::of_edges(has_zero, edges))
     }
 }

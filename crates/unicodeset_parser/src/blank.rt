@@ -20,7 +20,7 @@ fn is_white(character: char) -> bool
 /// How many bytes the first character takes if it is white space, else 0.
 #[inline]
 #[tactic(auto, unfolding(crate::specs::Blanks::blank_size))]
-pub(crate) fn blank_size(text: &[u8]) -> usize
+pub(crate) fn first_blank_size(text: &[u8]) -> usize
     ensures size { result ≡ blank_size text.now }
     ensures within { result ≤ length text.now }
 {
@@ -32,14 +32,14 @@ pub(crate) fn blank_size(text: &[u8]) -> usize
 }
 
 /// Whether a `]` follows after white space.
-pub(crate) fn closes(text: &[u8]) -> bool
+pub(crate) fn begins_with_closing_bracket(text: &[u8]) -> bool
     ensures { result ≡ closes 0 text.now }
 {
     let mut rest = text;
-    let mut blanks = blank_size(rest);
+    let mut blanks = first_blank_size(rest);
     'blanks: while blanks > 0 {
         rest = bytes_behind(rest, blanks);
-        blanks = blank_size(rest);
+        blanks = first_blank_size(rest);
     }
     begins_with(rest, b']')
 }

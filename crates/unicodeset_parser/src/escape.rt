@@ -61,7 +61,7 @@ fn braced_digits(text: &[u8]) -> Lexeme
 }
 
 /// The escape with so many digits, or with one to six between braces.
-pub(crate) fn any_digits(count: usize, text: &[u8]) -> Lexeme
+pub(crate) fn fixed_or_braced_digits(count: usize, text: &[u8]) -> Lexeme
     requires { count ≤ 8 }
     ensures { lexeme_view result ≡ any_digits count text.now }
 {

@@ -38,7 +38,7 @@ pub(crate) fn empty_frame(alloc: Global, negated: bool, join: Join) -> Frame
 /// These spans, in no more room than they need. A few are copied, since the room of what is left is used again; more are taken out.
 ///
 /// - `Memory`: memory ran out.
-fn taken(alloc: Global, letters: &mut Vec<Span>) -> Result<Spans, Memory>
+fn fitted_spans(alloc: Global, letters: &mut Vec<Span>) -> Result<Spans, Memory>
     ensures { IfOk result (λ spans. spans ≡ letters.old.items) }
 {
     if letters.len() <= FEW {
@@ -67,7 +67,7 @@ fn with_letters(alloc: Global, parts: Parts, letters: &mut Vec<Span>) -> Result<
         all.push(Part {
             join: Join::Union,
             negated: false,
-            part: Expr::Several(taken(alloc, letters)?),
+            part: Expr::Several(fitted_spans(alloc, letters)?),
         })?;
     }
     Ok(all)
@@ -200,7 +200,7 @@ fn bracket_of(alloc: Global, parts: Parts, letters: &mut Vec<Span>) -> Result<Ex
         ≡ bracket (steps_of (parts_view parts ++ map united letters.old.items))) }
 {
     if parts.is_empty() && !letters.is_empty() {
-        return Ok(Expr::Listed(taken(alloc, letters)?));
+        return Ok(Expr::Listed(fitted_spans(alloc, letters)?));
     }
     let all = with_letters(alloc, parts, letters)?;
     Ok(Expr::Bracket(all.fitted(alloc)?))

@@ -5,10 +5,10 @@ ghost use Rattle.unicodeset_parser.specs.Lexing.{colon, opening, escape, hyphen,
 ghost use Rattle.unicodeset_parser.specs.Tokens.{sized, letter};
 ghost use Rattle.unicodeset_parser.specs.TokenViews.{sign_view, lexeme_view};
 
-use crate::blank::closes;
+use crate::blank::begins_with_closing_bracket;
 use crate::bytes::{begins_with, bytes_behind, first_char};
-use crate::escape::{any_digits, fixed_digits, letter_of_escape, plain_escape};
-use crate::property::{braces, property_at};
+use crate::escape::{fixed_digits, fixed_or_braced_digits, letter_of_escape, plain_escape};
+use crate::property::{braced_property, property_at};
 use crate::token::{BadToken, Lexeme, Token};
 use std::alloc::Global;
 use ucd_points::Memory;
@@ -22,7 +22,7 @@ fn one_byte(token: Token) -> Lexeme
 }
 
 /// The property behind `[:`.
-fn colon(alloc: Global, at: usize, text: &[u8]) -> Result<Lexeme, Memory>
+fn colon_property(alloc: Global, at: usize, text: &[u8]) -> Result<Lexeme, Memory>
     ensures { IfOk result (λ l. lexeme_view l ≡ colon at text.now) }
 {
     if begins_with(text, b'^') {
@@ -38,7 +38,7 @@ fn opening(alloc: Global, at: usize, text: &[u8]) -> Result<Lexeme, Memory>
     ensures { IfOk result (λ l. lexeme_view l ≡ opening at text.now) }
 {
     if begins_with(text, b':') {
-        return colon(alloc, at, bytes_behind(text, 1));
+        return colon_property(alloc, at, bytes_behind(text, 1));
     }
     if begins_with(text, b'^') {
         return Ok(Lexeme {
@@ -59,11 +59,11 @@ fn escape(alloc: Global, at: usize, text: &[u8]) -> Result<Lexeme, Memory>
         return Ok(one_byte(Token::Wrong(BadToken::Cut)));
     };
     match first {
-        'p' => braces(alloc, at, false, bytes_behind(text, 1)),
-        'P' => braces(alloc, at, true, bytes_behind(text, 1)),
+        'p' => braced_property(alloc, at, false, bytes_behind(text, 1)),
+        'P' => braced_property(alloc, at, true, bytes_behind(text, 1)),
         'N' => Ok(one_byte(Token::Wrong(BadToken::CharacterName))),
-        'u' => Ok(any_digits(4, bytes_behind(text, 1))),
-        'x' => Ok(any_digits(2, bytes_behind(text, 1))),
+        'u' => Ok(fixed_or_braced_digits(4, bytes_behind(text, 1))),
+        'x' => Ok(fixed_or_braced_digits(2, bytes_behind(text, 1))),
         'U' => Ok(fixed_digits(8, bytes_behind(text, 1))),
         _ => Ok(plain_escape(first, size)),
     }
@@ -73,7 +73,7 @@ fn escape(alloc: Global, at: usize, text: &[u8]) -> Result<Lexeme, Memory>
 fn hyphen(text: &[u8]) -> Token
     ensures { sign_view result ≡ hyphen text.now }
 {
-    if closes(text) {
+    if begins_with_closing_bracket(text) {
         letter_of_escape(1, Some(0x2d)).token
     } else {
         Token::Dash

@@ -18,7 +18,7 @@ use std::alloc::Global;
 use ucd_points::{Point, Span};
 
 /// The first token of the text.
-fn begun(alloc: Global, end: usize, at: usize, token: Token) -> Result<State, SetStop>
+fn after_first_token(alloc: Global, end: usize, at: usize, token: Token) -> Result<State, SetStop>
     ensures { Gives state_view result (begun end (placed at (sign_view token))) }
 {
     match token {
@@ -166,7 +166,7 @@ fn range_end(
 }
 
 /// A token in a bracket set.
-fn inside(
+fn inside_bracket_set(
     alloc: Global,
     end: usize,
     mode: Mode,
@@ -209,8 +209,8 @@ pub(crate) fn step(
     ensures { Gives state_view result (step end (state_view state) (placed at (sign_view token))) }
 {
     match state {
-        State::Before => begun(alloc, end, at, token),
-        State::Within(mode, nest) => { inside(alloc, end, mode, nest, at, token) }
+        State::Before => after_first_token(alloc, end, at, token),
+        State::Within(mode, nest) => { inside_bracket_set(alloc, end, mode, nest, at, token) }
         State::After(_) => Err(too_late(at, token)),
     }
 }

@@ -7,7 +7,7 @@ ghost use Rattle.unicodeset_parser.specs.Parsed.{parsed, Gives};
 ghost use Rattle.unicodeset_parser.specs.StateViews.{state_view};
 ghost use Rattle.unicodeset_parser.specs.Views.{tree_view};
 
-use crate::blank::blank_size;
+use crate::blank::first_blank_size;
 use crate::bytes::bytes_behind;
 use crate::expr::Expr;
 use crate::faults::fault;
@@ -25,7 +25,7 @@ fn tree_of(alloc: Global, text: &[u8]) -> Result<Expr, SetStop>
     let mut state = State::Before;
     let mut rest = text;
     'tokens: while !rest.is_empty() {
-        let blanks = blank_size(rest);
+        let blanks = first_blank_size(rest);
         if blanks > 0 {
             rest = bytes_behind(rest, blanks);
         } else {

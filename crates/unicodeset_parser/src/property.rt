@@ -114,7 +114,12 @@ pub(crate) fn property_at(
 }
 
 /// The form `\p{NAME}` or `\P{NAME}`, from what stands behind its `p`.
-pub(crate) fn braces(alloc: Global, at: usize, negated: bool, text: &[u8]) -> Result<Lexeme, Memory>
+pub(crate) fn braced_property(
+    alloc: Global,
+    at: usize,
+    negated: bool,
+    text: &[u8],
+) -> Result<Lexeme, Memory>
     ensures { IfOk result (λ l. lexeme_view l ≡ braces at negated text.now) }
 {
     if text.is_empty() {

@@ -21,7 +21,7 @@ unmapped-preserved g c =
     let i : ℕ = c.unmapped.at in
     let x : ℕ = c.index-nfd-at.result in
     let is = c.index-nfd-at.is in
-    let stays : StaysBy (F x) = unmapped_stays (F x) (sym c.is_unmapped.ensures ∙ c.if-not-is_unmapped.false) in
+    let stays : StaysBy (F x) = unmapped_stays (F x) (sym c.is_unchanged_by_casing.ensures ∙ c.if-not-is_unchanged_by_casing.false) in
     record {
       lowered = mapped_stays (lower_of F) s i x (omega arith) is (ap (image_points x) stays.lower) ∙ c.unmapped.invariant.lowered;
       uppered = mapped_stays (upper_of F) s i x (omega arith) is (ap (image_points x) stays.upper) ∙ c.unmapped.invariant.uppered;
@@ -29,8 +29,8 @@ unmapped-preserved g c =
       folded = mapped_stays (fold_of F) s i x (omega arith) is (ap (image_points x) stays.fold) ∙ c.unmapped.invariant.folded;
     }
 
-pub returns-then-not-is_unmapped : goal.returns-then-not-is_unmapped
-returns-then-not-is_unmapped g c =
+pub returns-then-not-is_unchanged_by_casing : goal.returns-then-not-is_unchanged_by_casing
+returns-then-not-is_unchanged_by_casing g c =
     let F : ℕ → Facts = g.W.FactView.facts_of c.args.view.now in
     let s : List ℕ = c.args.nfd.now in
     let i : ℕ = c.unmapped.at in

@@ -14,9 +14,9 @@ returns-then-is_empty c = λ sources keeps k lt.
 
 pub sum_of_tables-requires : goal.sum_of_tables-requires
 sum_of_tables-requires c k lt =
-    omega (arith, c.requires k lt, c.in_ok-one.ensures k lt, cond_small (list_any (within k) c.in_ok-spans.spans.items) c.word.result, c.word.ensures.below)
+    omega (arith, c.requires k lt, c.in_ok-one.ensures k lt, cond_small (list_any (within k) c.in_ok-spans.spans.items) c.word_bit.result, c.word_bit.ensures.below)
 
 pub returns : goal.returns
 returns c = λ sources keeps.
     IfOk-weaker c.sum_of_tables.result _ _ (λ sum h k lt.
-    h k lt ∙ ap (λ n. values_now c.args.table k + n) (c.in_ok-one.ensures k lt ∙ bit_of c.in_ok-spans.spans.items c.args.mark sources k c.word.result lt (c.in_ok-spans.ensures sources keeps) c.word.ensures.value)) c.sum_of_tables.ensures
+    h k lt ∙ ap (λ n. values_now c.args.table k + n) (c.in_ok-one.ensures k lt ∙ bit_of c.in_ok-spans.spans.items c.args.mark sources k c.word_bit.result lt (c.in_ok-spans.ensures sources keeps) c.word_bit.ensures.value)) c.sum_of_tables.ensures

@@ -18,10 +18,10 @@ returns-clause-records g c =
     (λ k below. c.shrink_to_fit.ensures.now k below ∙ c.commit.ensures.committed k below)
 
 pub returns-in_err-table-clause-steps : goal.returns-in_err-table-clause-steps
-returns-in_err-table-clause-steps g c = omega (arith, all_count, c.derive_first.ensures.step)
+returns-in_err-table-clause-steps g c = omega (arith, all_count, c.table_of_first_record.ensures.step)
 
 pub returns-in_err-derive_behind-clause-steps : goal.returns-in_err-derive_behind-clause-steps
-returns-in_err-derive_behind-clause-steps g c = omega (arith, all_count, c.derive_first.ensures.step, c.derive_behind.ensures.steps)
+returns-in_err-derive_behind-clause-steps g c = omega (arith, all_count, c.table_of_first_record.ensures.step, c.derive_behind.ensures.steps)
 
 pub returns-clause-steps : goal.returns-clause-steps
-returns-clause-steps g c = omega (arith, all_count, c.derive_first.ensures.step, c.derive_behind.ensures.steps)
+returns-clause-steps g c = omega (arith, all_count, c.table_of_first_record.ensures.step, c.derive_behind.ensures.steps)

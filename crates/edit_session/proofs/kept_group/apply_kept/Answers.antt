@@ -32,5 +32,5 @@ returns-in-Ok-clause-answer g c =
 
 pub returns-in-Ok-clause-kept : goal.returns-in-Ok-clause-kept
 returns-in-Ok-clause-kept g c =
-    keeps_before c.in-Ok.way c.prepare_kept.new.release c.args.release.now c.commit.new.self c.commit.ensures c.prepare_kept.ensures.now c.in-Ok.ensures.way c.is_kept.ensures
+    keeps_before c.in-Ok.way c.prepare_kept.new.release c.args.release.now c.commit.new.self c.commit.ensures c.prepare_kept.ensures.now c.in-Ok.ensures.way c.current_files_are_kept.ensures
     ((valid_is_unbroken (bench_facts c.args.release.now)).0 c.requires.before.now.valid)

@@ -7,8 +7,8 @@ use Rattle.fact_tables.specs.PaintLemmas.{stretch_more, all_painted}
 use Rattle.fact_tables.proofs.copying.put_rests_with.Goals as goal
 use Rattle.fact_tables.proofs.copying.put_rests_with.Goals.{then-bare-at, else-bare-at}
 
-pub last_rest-requires-clause-mapping : goal.last_rest-requires-clause-mapping
-last_rest-requires-clause-mapping g c =
+pub last_alike_rest-requires-clause-mapping : goal.last_alike_rest-requires-clause-mapping
+last_alike_rest-requires-clause-mapping g c =
     subst (λ (lists : DataLists). HoldsTo (λ d. lists_now lists.mappings d ≡ lists_now lists.mappings c.point-first.result) c.point-first.result c.run-mapping.result.last) c.deref.ensures c.run-mapping.ensures.same
 
 pub put_rest-requires-clause-mapping : goal.put_rest-requires-clause-mapping
@@ -32,7 +32,7 @@ stretches-preserved g c = record {
   next = λ k lt.
       stretch_more (rest_in c.args.from.now) c.args.span.lo c.stretches.at c.point-first.result c.number-at.result c.lesser-last.result k (rest_in c.args.from.now c.point-first.result) _ _ _
       (omega arith) (omega arith) refl (omega arith)
-      (λ low high. c.last_rest.ensures.each k low (omega arith))
+      (λ low high. c.last_alike_rest.ensures.each k low (omega arith))
       (c.in_ok-put_rest.ensures.ok k lt) (c.stretches.invariant.next k lt) (omega arith);
 }
 

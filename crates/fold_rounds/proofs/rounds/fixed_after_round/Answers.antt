@@ -18,11 +18,11 @@ pub returns-then-same_points-2 : goal.returns-then-same_points-2
 returns-then-same_points-2 g c =
     let F : ℕ → Facts = g.W.FactView.facts_of c.args.view.now in
     let found = subst (λ (r : Option Found). FoundBy c.args.folding (λ k. round k F c.as_slice-in-rounds.result.now) r) c.in-Some.is c.in_ok-found.ensures in
-    let same : bytes_eq c.behind-next.result.list c.rounds.last.list ≡ true = cc in
+    let same : bytes_eq c.alike_only_if-next.result.list c.rounds.last.list ≡ true = cc in
     λ k covered.
-    let both = covered_both c.args.folding k c.rounds.last.alike c.in-Some.found.alike (subst (λ (b : Bool). IsCovered c.args.folding b k) c.behind-next.ensures.alike covered) in
-    let next : round k F c.rounds.last.list ≡ Some c.behind-next.result.list = ap (round k F) (sym c.as_slice-in-rounds.ensures) ∙ found k both.1 ∙ ap (λ xs. Some xs) (sym c.behind-next.ensures.list) in
-    found_same k F c.args.c c.rounds.done c.rounds.last.list c.behind-next.result.list (omega arith) (c.rounds.invariant.list k both.0) next same
+    let both = covered_both c.args.folding k c.rounds.last.alike c.in-Some.found.alike (subst (λ (b : Bool). IsCovered c.args.folding b k) c.alike_only_if-next.ensures.alike covered) in
+    let next : round k F c.rounds.last.list ≡ Some c.alike_only_if-next.result.list = ap (round k F) (sym c.as_slice-in-rounds.ensures) ∙ found k both.1 ∙ ap (λ xs. Some xs) (sym c.alike_only_if-next.ensures.list) in
+    found_same k F c.args.c c.rounds.done c.rounds.last.list c.alike_only_if-next.result.list (omega arith) (c.rounds.invariant.list k both.0) next same
 
 pub returns : goal.returns
 returns g c =

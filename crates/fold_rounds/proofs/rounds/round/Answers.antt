@@ -10,5 +10,5 @@ returns-in-Some-2 g c =
     let F : ℕ → Facts = g.W.FactView.facts_of c.args.view.now in
     let form : short_nfkc F c.args.s.now ≡ Some c.in-Some.form = cc c.in_ok-form.ensures in
     let folds : folded_form c.args.folding F c.in-Some.form ≡ Some c.in-Some-2.list = cc c.in_ok-list.ensures in
-    let alike : c.are_alike-alike.result ≡ are_alike F c.in-Some.form = c.are_alike-alike.ensures ∙ ap (are_alike F) c.as_slice.ensures in
+    let alike : c.all_fold_alike-alike.result ≡ are_alike F c.in-Some.form = c.all_fold_alike-alike.ensures ∙ ap (are_alike F) c.as_slice.ensures in
     λ k covered. round_covered c.args.folding k F c.args.s.now c.in-Some.form c.in-Some-2.list (subst (λ (b : Bool). IsCovered c.args.folding b k) alike covered) form folds

@@ -3,4 +3,4 @@ use Rattle.ucd_facts.specs.Shown.{shown_facts}
 use Rattle.identifier_closure.proofs.predicates.is_id_continue.Goals as goal
 
 pub returns : goal.returns
-returns c = c.continues_by.ensures (shown_facts c.args.facts.now) refl refl
+returns c = c.is_id_continue_by.ensures (shown_facts c.args.facts.now) refl refl

@@ -8,7 +8,7 @@ pub points-preserved : goal.points-preserved
 points-preserved g c =
     let class : ℕ → ℕ = class_of (g.W.FactView.facts_of c.args.view.now) in
     let pair : ℕ → ℕ → Option ℕ = pair_of (g.W.FactView.facts_of c.args.view.now) in
-    let put = c.put_next-so_far in
+    let put = c.compose_next-so_far in
     record {
       so_far = put.ensures.so_far;
       length = put.ensures.length ∙ c.points.invariant.length;

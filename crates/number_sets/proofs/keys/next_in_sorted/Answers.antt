@@ -8,6 +8,6 @@ use Rattle.number_sets.proofs.keys.next_in_sorted.Goals as goal
 pub returns : goal.returns
 returns c =
     let xs = c.args.sorted.now in
-    let place = c.place_of-place.result in
+    let place = c.lower_bound-place.result in
     let got : c.copied.result ≡ slice_get xs place = grind (arith, elements) in
-    subst (IsNext (is_in xs) c.args.start) (sym got) (listed_next xs c.args.start place (non_decreasing_from_sorted xs (sorted_from_strictly_increasing xs c.requires)) (parted xs c.args.start place c.place_of-place.ensures))
+    subst (IsNext (is_in xs) c.args.start) (sym got) (listed_next xs c.args.start place (non_decreasing_from_sorted xs (sorted_from_strictly_increasing xs c.requires)) (parted xs c.args.start place c.lower_bound-place.ensures))

@@ -19,7 +19,7 @@ returns-clause-puts c =
       tight = λ p is even.
           let words = rw (eqb-true p page is) at even in
           let outside = outside_from_even (value_of c.args.pool.now c.args.next) (word_of c.fill_words.new.pool page) lo hi c.args.value c.requires.ordered (omega arith) values words in
-          true≢false (sym (c.is_even_after.ensures.uneven outside) ∙ c.if-is_even_after.false);
+          true≢false (sym (c.has_one_value_after.ensures.uneven outside) ∙ c.if-has_one_value_after.false);
       now_stays = λ p is. record {
         live = set.live p ∙ own.others_live p (own.now p is) ∙ c.requires.now p is;
         words = λ a lt. set.others p a (own.now p is) lt ∙ own.others_words p a (own.now p is) lt;

@@ -11,7 +11,7 @@ use Rattle.part_list.proofs.guides.renew_all.Goals as goal
 pub blocks-2-preserved : goal.blocks-2-preserved
 blocks-2-preserved g c =
     let ps = c.args.parts.now in
-    let r = c.joined.result in
+    let r = c.joined_reach.result in
     let guides = c.blocks-2.guides.items in
     let before : List Reach = guides ++ r ∷ [] in
     let items : c.push.new.self.items ≡ before = c.in-Ok.ensures.items in
@@ -23,5 +23,5 @@ blocks-2-preserved g c =
       block = λ more. omega arith;
       covers = subst (λ gs. Covers gs (parts_next ps)) (sym {a = c.push.new.self.items} {b = before} items)
           (covers_more guides r (parts_next ps) c.blocks-2.invariant.covers
-          (λ k small. subst (λ s. All (IsWithin r) (part_at (parts_next ps) (s + k))) start (in_block (IsWithin r) ps c.blocks-2.from c.min-to.result k (omega arith) small (λ more. omega arith) c.joined.ensures)));
+          (λ k small. subst (λ s. All (IsWithin r) (part_at (parts_next ps) (s + k))) start (in_block (IsWithin r) ps c.blocks-2.from c.min-to.result k (omega arith) small (λ more. omega arith) c.joined_reach.ensures)));
     }

@@ -11,14 +11,14 @@ returns-in-Some g c =
     c.parts.invariant c.in-Some.ensures
 
 pub parts-init : goal.parts-init
-parts-init g c = none_of-ruled (g.S.Seek.passing c.args.seek.now) (parts_next c.args.parts.now) c.args.from c.next_slot-slot.result c.next_slot-slot.ensures.from c.requires.before c.next_slot-slot.ensures.ruled
+parts-init g c = none_of-ruled (g.S.Seek.passing c.args.seek.now) (parts_next c.args.parts.now) c.args.from c.next_candidate_slot-slot.result c.next_candidate_slot-slot.ensures.from c.requires.before c.next_candidate_slot-slot.ensures.ruled
 
 pub parts-preserved : goal.parts-preserved
 parts-preserved g c =
     let p = g.S.Seek.passing c.args.seek.now in
-    none_of-ruled p (parts_next c.args.parts.now) _ _ c.next_slot-slot-in-parts.ensures.from
+    none_of-ruled p (parts_next c.args.parts.now) _ _ c.next_candidate_slot-slot-in-parts.ensures.from
     (none_of-part p c.args.parts.now c.parts.slot c.index-parts-slot.result c.parts-test.true c.index-parts-slot.is c.parts.invariant c.in_default.ensures)
-    c.next_slot-slot-in-parts.ensures.ruled
+    c.next_candidate_slot-slot-in-parts.ensures.ruled
 
 pub returns : goal.returns
 returns g c = none_of-all (g.S.Seek.passing c.args.seek.now) c.args.parts.now c.parts.slot (omega (arith, c.parts-test.false)) c.parts.invariant

@@ -23,7 +23,7 @@ returns-clause-told c =
     let same : row_in c.row-row.result ≡ a.row.now = c.row-row.ensures in
     let by-row = λ (row : Row). place_lines a.file a.lines.now.lines (place_of (a.line, row)) in
     let text : c.as_slice.result.now ≡ lines = c.as_slice.ensures ∙ c.in_ok-text.ensures.text ∙ ap by-row same in
-    on_ok_weaker c.put_text.result
+    on_ok_weaker c.put_lines_by_point.result
     (λ put. put ∙ same_more (if_speaks (row_in c.row-row.result) c.as_slice.result.now) (rows_lines a.file a.lines.now.lines ((a.line, a.row.now) ∷ []))
     (λ k. ap (λ (row : Row). if_speaks row c.as_slice.result.now k) same ∙ ap (λ (t : List ℕ). if_speaks a.row.now t k) text ∙ sym (one_row a.file a.lines.now.lines a.line a.row.now k)) told)
-    c.put_text.ensures
+    c.put_lines_by_point.ensures

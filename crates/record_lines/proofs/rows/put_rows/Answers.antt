@@ -21,5 +21,5 @@ files-preserved c =
     let before = λ (k : ℕ). flat_map (of k) (take i files) in
     let behind = λ (k : ℕ). flat_map (of k) (take (i + 1) files) in
     let step = λ (k : ℕ). ap (flat_map (of k)) (take_more files i UnicodeData c.files-test.true) ∙ sym (flat_map_more (of k) [] (take i files) file) in
-    c.in_ok-put_file.ensures ∙ ap (map (with_more (file_rows_text (items_now release file) file))) c.files.invariant
+    c.in_ok-put_file_rows.ensures ∙ ap (map (with_more (file_rows_text (items_now release file) file))) c.files.invariant
     ∙ more_twice before (file_rows_text (items_now release file) file) behind step c.args.told.now

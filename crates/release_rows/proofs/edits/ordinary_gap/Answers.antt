@@ -46,6 +46,6 @@ first_behind-requires c =
     let sought = c.requires.sought in
     let st = stored_at s.file s.text in
     let entries = next_in c.args.items.now in
-    let count = c.items_passed.result in
-    let none = subst (NoneFollows s.file sought.0) (take-map st count entries) (c.items_passed.ensures sought.0 (map st entries) sought.1 c.requires.leads) in
+    let count = c.skippable_items.result in
+    let none = subst (NoneFollows s.file sought.0) (take-map st count entries) (c.skippable_items.ensures sought.0 (map st entries) sought.1 c.requires.leads) in
     rw c.with.ensures (none_behind s sought.0 (take count entries) c.contents_have_keys.ensures sought.1 (All-take (IsStored s.file s.text) count entries c.requires.each) none)

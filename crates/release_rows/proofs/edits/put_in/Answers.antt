@@ -15,7 +15,7 @@ returns-in-Behind-clause-ok c file text n at =
     let old = c.args.items.now in
     let spot = c.in-Behind.spot in
     let gap = subst (λ (g : Gap). IsGapAt g n old.next) c.in-Behind.is at in
-    on_ok_weaker c.replace_and_insert.result (λ put. put_behind (stored_at file text) (next_in old) (next_in c.replace_and_insert.new.self) (place old.next spot) c.get.result c.with_end-ended.result c.args.entry (place-lt old.next spot gap.0) c.get.ensures (c.with_end-ended.ensures.item file text) put ∙ ap (λ (m : ℕ). put_in (map (stored_at file text) (next_in old)) m (stored_at file text c.args.entry)) gap.1) c.replace_and_insert.ensures.ok
+    on_ok_weaker c.replace_and_insert.result (λ put. put_behind (stored_at file text) (next_in old) (next_in c.replace_and_insert.new.self) (place old.next spot) c.get.result c.with_line_end-ended.result c.args.entry (place-lt old.next spot gap.0) c.get.ensures (c.with_line_end-ended.ensures.item file text) put ∙ ap (λ (m : ℕ). put_in (map (stored_at file text) (next_in old)) m (stored_at file text c.args.entry)) gap.1) c.replace_and_insert.ensures.ok
 
 pub returns-in-Behind-clause-each : goal.returns-in-Behind-clause-each
 returns-in-Behind-clause-each c file text all one =
@@ -24,4 +24,4 @@ returns-in-Behind-clause-each c file text all one =
     let n = c.requires.0 in
     let gap = subst (λ (g : Gap). IsGapAt g n old.next) c.in-Behind.is c.requires.1 in
     let found = subst (IsStored file text) (sym c.get.ensures) (All-get_or (IsStored file text) (next_in old) (place old.next spot) c.get.result (place-lt old.next spot gap.0) all) in
-    on_ok_weaker c.replace_and_insert.result (λ put. each_put (IsStored file text) (next_in old) (next_in c.replace_and_insert.new.self) (place old.next spot) c.with_end-ended.result c.args.entry all (c.with_end-ended.ensures.stored file text found) one put) c.replace_and_insert.ensures.ok
+    on_ok_weaker c.replace_and_insert.result (λ put. each_put (IsStored file text) (next_in old) (next_in c.replace_and_insert.new.self) (place old.next spot) c.with_line_end-ended.result c.args.entry all (c.with_line_end-ended.ensures.stored file text found) one put) c.replace_and_insert.ensures.ok

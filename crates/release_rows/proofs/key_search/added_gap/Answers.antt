@@ -7,11 +7,11 @@ use Rattle.release_rows.proofs.FirstOfKey.{no_key, no_overlap}
 use Rattle.release_rows.proofs.FoundRows.{key_any, overlap_any}
 use Rattle.release_rows.proofs.key_search.added_gap.Goals as goal
 
-pub returns-then-is_new_key : goal.returns-then-is_new_key
-returns-then-is_new_key c row is =
+pub returns-then-is_surely_new_key : goal.returns-then-is_surely_new_key
+returns-then-is_surely_new_key c row is =
     let sought = c.args.search.now in
     let items = items_of sought.file sought.text c.args.items.now.next in
-    let lacks : may_have c.args.seen_hashes.now (key_hash sought.file (row_span row).lo (key_names sought.file row)) ≡ false = rw (← is.code, ← is.names) (c.is_new_key.ensures c.if-is_new_key.true) in
+    let lacks : may_have c.args.seen_hashes.now (key_hash sought.file (row_span row).lo (key_names sought.file row)) ≡ false = rw (← is.code, ← is.names) (c.is_surely_new_key.ensures c.if-is_surely_new_key.true) in
     (no_key sought.file c.args.seen_hashes.now row items lacks c.requires.noted, no_overlap sought.file c.args.seen_hashes.now row items lacks c.requires.noted, c.gap_for.ensures row is)
 
 pub returns-then-is_some : goal.returns-then-is_some

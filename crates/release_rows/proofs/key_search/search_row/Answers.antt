@@ -11,10 +11,10 @@ returns c =
     record {
       file_is = refl;
       text_is = refl;
-      code = c.code_of.ensures ∙ ap (λ (k : Key). code_number k.code) c.requires.key ∙ code_is c.args.row.now;
-      last = c.row_end.ensures.end;
+      code = c.code_or_zero.ensures ∙ ap (λ (k : Key). code_number k.code) c.requires.key ∙ code_is c.args.row.now;
+      last = c.unshared_end.ensures.end;
       names = c.as_slice.ensures ∙ ap (λ (k : Key). k.names) c.requires.key;
-      group = c.content_group.ensures ∙ sym law.group;
+      group = c.content_section.ensures ∙ sym law.group;
       tag = rw (c.content_tag.ensures, law.names, law.group) (tag_of c.args.file c.args.bytes.now);
-      missing = c.is_missing.ensures;
+      missing = c.is_missing_line.ensures;
     }

@@ -5,4 +5,4 @@ use Rattle.release_rows.proofs.load_row.load_other_row.Goals as goal
 pub loaded_row_of-requires : goal.loaded_row_of-requires
 loaded_row_of-requires c =
     let row = row_in c.in-Ok.row in
-    (c.rows_are_ok.ensures c.args.file row).1 (c.args.content.now, (c.rows_are_read.ensures c.args.file c.args.content.now row).0 c.in-Ok.ensures)
+    (c.possible_rows_are_readable.ensures c.args.file row).1 (c.args.content.now, (c.rows_are_read.ensures c.args.file c.args.content.now row).0 c.in-Ok.ensures)

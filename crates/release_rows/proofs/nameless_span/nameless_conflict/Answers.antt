@@ -13,12 +13,12 @@ returns-then-begins_at c =
     let none : (length c.args.place.now.names.items == 0) ≡ true = grind (arith, nat_tests, c.args.place.now.names.ok.0, c.is_empty.ensures, c.if-not-is_empty.false) in
     rw (unnamed c.args.place.now c.args.last c.args.runs.now none, ← c.begins_at.ensures, c.if-begins_at.true) refl
 
-pub returns-then-reaches : goal.returns-then-reaches
-returns-then-reaches c =
+pub returns-then-some_run_meets : goal.returns-then-some_run_meets
+returns-then-some_run_meets c =
     let none : (length c.args.place.now.names.items == 0) ≡ true = grind (arith, nat_tests, c.args.place.now.names.ok.0, c.is_empty.ensures, c.if-not-is_empty.false) in
-    rw (unnamed c.args.place.now c.args.last c.args.runs.now none, ← c.begins_at.ensures, c.if-begins_at.false, ← c.reaches.ensures, c.if-reaches.true) refl
+    rw (unnamed c.args.place.now c.args.last c.args.runs.now none, ← c.begins_at.ensures, c.if-begins_at.false, ← c.some_run_meets.ensures, c.if-some_run_meets.true) refl
 
 pub returns : goal.returns
 returns c =
     let none : (length c.args.place.now.names.items == 0) ≡ true = grind (arith, nat_tests, c.args.place.now.names.ok.0, c.is_empty.ensures, c.if-not-is_empty.false) in
-    rw (unnamed c.args.place.now c.args.last c.args.runs.now none, ← c.begins_at.ensures, c.if-begins_at.false, ← c.reaches.ensures, c.if-reaches.false) refl
+    rw (unnamed c.args.place.now c.args.last c.args.runs.now none, ← c.begins_at.ensures, c.if-begins_at.false, ← c.some_run_meets.ensures, c.if-some_run_meets.false) refl

@@ -8,5 +8,5 @@ pub returns : goal.returns
 returns c = λ above row holds start enters.
     let e = c.in-Some.field-0 in
     let entered = subst (λ (o : Option LoadedRow). EntersSome c.args.file o row) c.in-Some.is enters in
-    rw (c.rule_by.ensures) (takes_row c.args.file above row c.args.keys.now c.take.new.self c.args.before e c.in_ok-conflict.conflict c.is_back-back.result holds start entered
-    c.in_ok-conflict.ensures.rule c.in_ok-conflict.ensures.keys c.is_back-back.ensures)
+    rw (c.rule_by.ensures) (takes_row c.args.file above row c.args.keys.now c.take.new.self c.args.before e c.in_ok-conflict.conflict c.breaks_ascent-back.result holds start entered
+    c.in_ok-conflict.ensures.rule c.in_ok-conflict.ensures.keys c.breaks_ascent-back.ensures)

@@ -6,13 +6,13 @@ use Rattle.source_rows.proofs.conditions.spaced_words.Goals as goal
 
 pub words-preserved-then-is_empty : goal.words-preserved-then-is_empty
 words-preserved-then-is_empty c =
-    let e = no_word c.words.rest.now c.first_word.result.0.now c.first_word.result.1.now c.first_word.ensures.before c.first_word.ensures.after (sym c.is_empty-in-words.ensures ∙ c.if-is_empty.true) in
+    let e = no_word c.words.rest.now c.cut_at_first_blank.result.0.now c.cut_at_first_blank.result.1.now c.cut_at_first_blank.ensures.before c.cut_at_first_blank.ensures.after (sym c.is_empty-in-words.ensures ∙ c.if-is_empty.true) in
     ap (λ (ws : List (List ℕ)). behind_words c.words.spaced ws) (sym e) ∙ c.words.invariant
 
 pub words-preserved : goal.words-preserved
 words-preserved c =
-    let e = one_word c.words.rest.now c.first_word.result.0.now c.first_word.result.1.now c.first_word.ensures.before c.first_word.ensures.after (sym c.is_empty-in-words.ensures ∙ c.if-is_empty.false) in
-    ap (λ (done : List ℕ). behind_words done (words c.first_word.result.1.now)) c.in_ok-put_word.ensures ∙ sym (words_onto c.words.spaced c.first_word.result.0.now (words c.first_word.result.1.now)) ∙ ap (λ (ws : List (List ℕ)). behind_words c.words.spaced ws) (sym e) ∙ c.words.invariant
+    let e = one_word c.words.rest.now c.cut_at_first_blank.result.0.now c.cut_at_first_blank.result.1.now c.cut_at_first_blank.ensures.before c.cut_at_first_blank.ensures.after (sym c.is_empty-in-words.ensures ∙ c.if-is_empty.false) in
+    ap (λ (done : List ℕ). behind_words done (words c.cut_at_first_blank.result.1.now)) c.in_ok-put_word.ensures ∙ sym (words_onto c.words.spaced c.cut_at_first_blank.result.0.now (words c.cut_at_first_blank.result.1.now)) ∙ ap (λ (ws : List (List ℕ)). behind_words c.words.spaced ws) (sym e) ∙ c.words.invariant
 
 pub returns : goal.returns
 returns c =

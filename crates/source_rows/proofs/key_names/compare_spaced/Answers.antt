@@ -12,28 +12,28 @@ words-init c =
 
 pub words-preserved-then-is_empty : goal.words-preserved-then-is_empty
 words-preserved-then-is_empty c =
-    let e = no_word c.words.rest.now c.first_word.result.0.now c.first_word.result.1.now c.first_word.ensures.before c.first_word.ensures.after (sym c.is_empty-in-words.ensures ∙ c.if-is_empty.true) in
+    let e = no_word c.words.rest.now c.cut_at_first_blank.result.0.now c.cut_at_first_blank.result.1.now c.cut_at_first_blank.ensures.before c.cut_at_first_blank.ensures.after (sym c.is_empty-in-words.ensures ∙ c.if-is_empty.true) in
     ap (λ (ws : List (List ℕ)). slice_cmp nat_cmp c.words.left.now (led_by c.words.gap.now ws)) (sym e) ∙ c.words.invariant
 
 pub returns-then-is_ne : goal.returns-then-is_ne
 returns-then-is_ne c =
-    let e = one_word c.words.rest.now c.first_word.result.0.now c.first_word.result.1.now c.first_word.ensures.before c.first_word.ensures.after (sym c.is_empty-in-words.ensures ∙ c.if-is_empty.false) in
-    gap_stops c.words.left.now c.words.gap.now c.first_word.result.0.now (words c.first_word.result.1.now) c.compare_part-order.result.0 c.compare_part-order.ensures.order (sym c.is_ne.ensures ∙ c.if-is_ne.true)
+    let e = one_word c.words.rest.now c.cut_at_first_blank.result.0.now c.cut_at_first_blank.result.1.now c.cut_at_first_blank.ensures.before c.cut_at_first_blank.ensures.after (sym c.is_empty-in-words.ensures ∙ c.if-is_empty.false) in
+    gap_stops c.words.left.now c.words.gap.now c.cut_at_first_blank.result.0.now (words c.cut_at_first_blank.result.1.now) c.compare_prefix-order.result.0 c.compare_prefix-order.ensures.order (sym c.is_ne.ensures ∙ c.if-is_ne.true)
     ∙ ap (λ (ws : List (List ℕ)). slice_cmp nat_cmp c.words.left.now (led_by c.words.gap.now ws)) (sym e)
     ∙ c.words.invariant
 
 pub returns-then-is_ne-2 : goal.returns-then-is_ne-2
 returns-then-is_ne-2 c =
-    let e = one_word c.words.rest.now c.first_word.result.0.now c.first_word.result.1.now c.first_word.ensures.before c.first_word.ensures.after (sym c.is_empty-in-words.ensures ∙ c.if-is_empty.false) in
-    word_stops c.words.left.now c.words.gap.now c.first_word.result.0.now c.compare_part-order.result.1.now (words c.first_word.result.1.now) c.compare_part-order.result.0 c.compare_part-order-in-words.result.0 c.compare_part-order.ensures.order (sym c.is_ne.ensures ∙ c.if-is_ne.false) c.compare_part-order.ensures.rest c.compare_part-order-in-words.ensures.order (sym c.is_ne-in-words.ensures ∙ c.if-is_ne-2.true)
+    let e = one_word c.words.rest.now c.cut_at_first_blank.result.0.now c.cut_at_first_blank.result.1.now c.cut_at_first_blank.ensures.before c.cut_at_first_blank.ensures.after (sym c.is_empty-in-words.ensures ∙ c.if-is_empty.false) in
+    word_stops c.words.left.now c.words.gap.now c.cut_at_first_blank.result.0.now c.compare_prefix-order.result.1.now (words c.cut_at_first_blank.result.1.now) c.compare_prefix-order.result.0 c.compare_prefix-order-in-words.result.0 c.compare_prefix-order.ensures.order (sym c.is_ne.ensures ∙ c.if-is_ne.false) c.compare_prefix-order.ensures.rest c.compare_prefix-order-in-words.ensures.order (sym c.is_ne-in-words.ensures ∙ c.if-is_ne-2.true)
     ∙ ap (λ (ws : List (List ℕ)). slice_cmp nat_cmp c.words.left.now (led_by c.words.gap.now ws)) (sym e)
     ∙ c.words.invariant
 
 pub words-preserved : goal.words-preserved
 words-preserved c =
-    let e = one_word c.words.rest.now c.first_word.result.0.now c.first_word.result.1.now c.first_word.ensures.before c.first_word.ensures.after (sym c.is_empty-in-words.ensures ∙ c.if-is_empty.false) in
-    ap (λ (gap : List ℕ). slice_cmp nat_cmp c.compare_part-order-in-words.result.1.now (led_by gap (words c.first_word.result.1.now))) c.as_slice-gap-in-words.ensures
-    ∙ word_goes c.words.left.now c.words.gap.now c.first_word.result.0.now c.compare_part-order.result.1.now c.compare_part-order-in-words.result.1.now (words c.first_word.result.1.now) c.compare_part-order.result.0 c.compare_part-order-in-words.result.0 c.compare_part-order.ensures.order (sym c.is_ne.ensures ∙ c.if-is_ne.false) c.compare_part-order.ensures.rest c.compare_part-order-in-words.ensures.order (sym c.is_ne-in-words.ensures ∙ c.if-is_ne-2.false) c.compare_part-order-in-words.ensures.rest
+    let e = one_word c.words.rest.now c.cut_at_first_blank.result.0.now c.cut_at_first_blank.result.1.now c.cut_at_first_blank.ensures.before c.cut_at_first_blank.ensures.after (sym c.is_empty-in-words.ensures ∙ c.if-is_empty.false) in
+    ap (λ (gap : List ℕ). slice_cmp nat_cmp c.compare_prefix-order-in-words.result.1.now (led_by gap (words c.cut_at_first_blank.result.1.now))) c.as_slice-gap-in-words.ensures
+    ∙ word_goes c.words.left.now c.words.gap.now c.cut_at_first_blank.result.0.now c.compare_prefix-order.result.1.now c.compare_prefix-order-in-words.result.1.now (words c.cut_at_first_blank.result.1.now) c.compare_prefix-order.result.0 c.compare_prefix-order-in-words.result.0 c.compare_prefix-order.ensures.order (sym c.is_ne.ensures ∙ c.if-is_ne.false) c.compare_prefix-order.ensures.rest c.compare_prefix-order-in-words.ensures.order (sym c.is_ne-in-words.ensures ∙ c.if-is_ne-2.false) c.compare_prefix-order-in-words.ensures.rest
     ∙ ap (λ (ws : List (List ℕ)). slice_cmp nat_cmp c.words.left.now (led_by c.words.gap.now ws)) (sym e)
     ∙ c.words.invariant
 

@@ -44,5 +44,5 @@ returns c =
     let given = tail_some tail c.in-Some.values (sym c.values.ensures ∙ c.in-Some.is) in
     let name = c.first_field.ensures.first ∙ sym (c.first_short_field.ensures.others 0) in
     let point : ℕ = c.in-Some-hex.point in
-    let e = single_is fs point c.span_of_line.result (fifteen content tail cut given.0) (ap point_of (sym c.first_short_field.ensures.first) ∙ sym c.hex.ensures ∙ c.in-Some-hex.is) (ap is_name (sym name) ∙ sym c.is_name.ensures ∙ c.if-not-is_name.false) (c.span_of_line.ensures ∙ ap (single_end point) name) in
-    rw (e, c.given_or_fault.ensures) (given_is fs false (field fs 1) c.in-Some.values c.span_of_line.result (cut_values content tail cut ∙ given.1))
+    let e = single_is fs point c.span_of_single_line.result (fifteen content tail cut given.0) (ap point_of (sym c.first_short_field.ensures.first) ∙ sym c.hex.ensures ∙ c.in-Some-hex.is) (ap is_name (sym name) ∙ sym c.is_name.ensures ∙ c.if-not-is_name.false) (c.span_of_single_line.ensures ∙ ap (single_end point) name) in
+    rw (e, c.point_values_or_fault.ensures) (given_is fs false (field fs 1) c.in-Some.values c.span_of_single_line.result (cut_values content tail cut ∙ given.1))

@@ -35,11 +35,11 @@ none_both : (a b : Bool) → b ≡ false → a && b ≡ false
 none_both true b e = e
 none_both false b e = refl
 
-pub returns-then-not-may_open_name : goal.returns-then-not-may_open_name
+pub returns-then-not-may_begin_range_name : goal.returns-then-not-may_begin_range_name
 unfolding fields
-returns-then-not-may_open_name c =
+returns-then-not-may_begin_range_name c =
     let content = c.args.content.now in
     let behind : c.cut_at_near_semicolon.result.1.now ≡ after_first is_semicolon content = c.cut_at_near_semicolon.ensures.after in
-    let closed : may_open_name (after_first is_semicolon content) ≡ false = ap may_open_name (sym behind) ∙ sym c.may_open_name.ensures ∙ c.if-not-may_open_name.true in
+    let closed : may_open_name (after_first is_semicolon content) ≡ false = ap may_open_name (sym behind) ∙ sym c.may_begin_range_name.ensures ∙ c.if-not-may_begin_range_name.true in
     let name : field (fields_of content) 1 ≡ trim (before_first is_semicolon (after_first is_semicolon content)) = others_are content 0 ∙ first_is (after_first is_semicolon content) in
     sym (none_both _ (has_first_name (field (fields_of content) 1)) (ap has_first_name name ∙ no_first_name (after_first is_semicolon content) closed))

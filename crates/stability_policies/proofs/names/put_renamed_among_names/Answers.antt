@@ -18,15 +18,15 @@ pub stretches-preserved : goal.stretches-preserved
 stretches-preserved c =
     let n = c.stretches.number in
     let e = c.min-end.result in
-    let from : n ≤ e = omega (arith, c.min-end.ensures, c.end_at.ensures.from, c.end_at-in-stretches.ensures.from) in
-    let old_end : e ≤ end_at n c.stretches.olds.now = omega (arith, c.min-end.ensures, c.end_at.ensures.end) in
-    let new_end : e ≤ end_at n c.stretches.news.now = omega (arith, c.min-end.ensures, c.end_at-in-stretches.ensures.end) in
+    let from : n ≤ e = omega (arith, c.min-end.ensures, c.end_of_one_name.ensures.from, c.end_of_one_name-in-stretches.ensures.from) in
+    let old_end : e ≤ end_at n c.stretches.olds.now = omega (arith, c.min-end.ensures, c.end_of_one_name.ensures.end) in
+    let new_end : e ≤ end_at n c.stretches.news.now = omega (arith, c.min-end.ensures, c.end_of_one_name-in-stretches.ensures.end) in
     record {
       so_far = names_more (At P02) c.args.into.now c.stretches.into c.put_if_renamed.new.into c.args.before.now c.args.after.now c.stretches.olds.now c.stretches.news.now n e from old_end new_end
           c.stretches.invariant.old c.stretches.invariant.new c.stretches.invariant.so_far c.in_ok-put_if_renamed.ensures;
       old = subst (λ (rest : List NamedRow). IsRest c.args.before.now e rest) (sym c.rows_from-olds.ensures) (rest_behind c.args.before.now c.stretches.olds.now n e from old_end c.stretches.invariant.old);
       new = subst (λ (rest : List NamedRow). IsRest c.args.after.now e rest) (sym c.rows_from-news.ensures) (rest_behind c.args.after.now c.stretches.news.now n e from new_end c.stretches.invariant.new);
-      within = omega (arith, c.min-end.ensures, c.end_at.ensures.within);
+      within = omega (arith, c.min-end.ensures, c.end_of_one_name.ensures.within);
     }
 
 pub returns : goal.returns

@@ -1,4 +1,4 @@
 use Rattle.ucdshop_core.proofs.program.run.Given as goal
 
-abbrev pub ghosts-run_anew : goal.ghosts-run_anew
-ghosts-run_anew g a = record { name = a.blank.name; parts = a.blank.parts }
+abbrev pub ghosts-run_with_new_counter : goal.ghosts-run_with_new_counter
+ghosts-run_with_new_counter g a = record { name = a.blank.name; parts = a.blank.parts }

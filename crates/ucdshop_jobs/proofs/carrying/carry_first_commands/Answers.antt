@@ -10,8 +10,8 @@ returns-in_err-carry_group-in-Group-clause-stopped g c =
     (first_counts c.args.commands.now c.first_command.result.0.now c.first_command.result.1.now (Group c.as_slice.result.now) (session_of c.args.bench.now c.args.carried.now) _
     c.args.steps.now c.carry_group.new.steps c.carry_group.new.steps c.first_command.ensures (c.in-Group.is ∙ ap Group (sym c.as_slice.ensures)) refl c.carry_group.ensures.counts (session_counts_none _ c.first_command.result.1.now c.carry_group.new.steps))
 
-pub answer_run-requires-clause-ready : goal.answer_run-requires-clause-ready
-answer_run-requires-clause-ready g c = ready_behind c.args.commands.now c.first_command.result.0.now c.first_command.result.1.now c.first_command.ensures c.requires.ready
+pub answer_adjacent_questions-requires-clause-ready : goal.answer_adjacent_questions-requires-clause-ready
+answer_adjacent_questions-requires-clause-ready g c = ready_behind c.args.commands.now c.first_command.result.0.now c.first_command.result.1.now c.first_command.ensures c.requires.ready
 
 pub returns-in_ok-carry_group-in-Group-clause-counts : goal.returns-in_ok-carry_group-in-Group-clause-counts
 returns-in_ok-carry_group-in-Group-clause-counts g c = λ n more.
@@ -23,9 +23,9 @@ returns-in_ok-carry_group-in-Group-clause-ready g c = ready_behind c.args.comman
 
 pub returns-in-Question-clause-counts : goal.returns-in-Question-clause-counts
 returns-in-Question-clause-counts g c = λ n.
-    question_counts c.answer_run.result c.args.bench.now.current c.answer_run.new.carried c.args.commands.now c.first_command.result.0.now c.first_command.result.1.now c.as_slice-in-Question.result.now (session_of c.args.bench.now c.args.carried.now) _
-    c.args.steps.now n c.first_command.ensures (c.in-Question.is ∙ ap Question (sym c.as_slice-in-Question.ensures)) c.answer_run.ensures.answers
+    question_counts c.answer_adjacent_questions.result c.args.bench.now.current c.answer_adjacent_questions.new.carried c.args.commands.now c.first_command.result.0.now c.first_command.result.1.now c.as_slice-in-Question.result.now (session_of c.args.bench.now c.args.carried.now) _
+    c.args.steps.now n c.first_command.ensures (c.in-Question.is ∙ ap Question (sym c.as_slice-in-Question.ensures)) c.answer_adjacent_questions.ensures.answers
 
 pub returns-in-Question-clause-stopped : goal.returns-in-Question-clause-stopped
 returns-in-Question-clause-stopped g c =
-    on_err c.answer_run.result (session_counts_none (session_of c.args.bench.now c.args.carried.now) c.args.commands.now c.args.steps.now)
+    on_err c.answer_adjacent_questions.result (session_counts_none (session_of c.args.bench.now c.args.carried.now) c.args.commands.now c.args.steps.now)

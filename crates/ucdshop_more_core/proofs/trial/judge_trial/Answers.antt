@@ -6,6 +6,6 @@ use Rattle.ucdshop_more_core.proofs.trial.judge_trial.Goals as goal
 
 pub returns : goal.returns
 returns g c =
-    subst (TriedAs c.judge_behind.result)
+    subst (TriedAs c.judge_case_file.result)
     (judged_behind c.args.input.now c.args.tests.now c.args.held.now.items c.open_folder.new.held.items c.in_ok-bench.bench c.in_ok-bench.ensures.files c.in_ok-bench.ensures.still c.open_folder.ensures.others)
-    (subst (λ (held : List (Option (List ℕ))). TriedAs c.judge_behind.result (with_cases c.in_ok-bench.bench (cases_told c.args.tests.now (held_at held 9)))) c.as_slice.ensures.value c.judge_behind.ensures)
+    (subst (λ (held : List (Option (List ℕ))). TriedAs c.judge_case_file.result (with_cases c.in_ok-bench.bench (cases_told c.args.tests.now (held_at held 9)))) c.as_slice.ensures.value c.judge_case_file.ensures)

@@ -13,9 +13,9 @@ when_ok (Err e) X fine h = absurd (true≢false fine)
 pub listed-preserved : goal.listed-preserved
 listed-preserved g c =
     let t = c.args.self.now in
-    subst (λ (n : ℕ). GathersBelow c.keep_candidate.new.keys (facts_at Now t) n) (sym c.in_ok-from.ensures.1)
-    (gathers_more t.index (facts_at Now t) c.listed.keys c.keep_candidate.new.keys c.listed.from c.in-Some.key (listed_at Now t) c.keep_candidate.ensures.grows c.in-Some.ensures.2
-    (when_ok c.keep_candidate.result _ c.in_ok-ok.ensures.variant c.keep_candidate.ensures.kept) c.listed.invariant)
+    subst (λ (n : ℕ). GathersBelow c.gather_if_candidate.new.keys (facts_at Now t) n) (sym c.in_ok-from.ensures.1)
+    (gathers_more t.index (facts_at Now t) c.listed.keys c.gather_if_candidate.new.keys c.listed.from c.in-Some.key (listed_at Now t) c.gather_if_candidate.ensures.grows c.in-Some.ensures.2
+    (when_ok c.gather_if_candidate.result _ c.in_ok-ok.ensures.variant c.gather_if_candidate.ensures.kept) c.listed.invariant)
 
 pub returns : goal.returns
 returns g c =

@@ -16,7 +16,7 @@ pub returns-then-is_pair : goal.returns-then-is_pair
 returns-then-is_pair g c =
     let F : ℕ → Facts = facts_at c.args.version c.args.self.now in
     let q : ℕ = c.in-Some.q in
-    let is : composes F c.args.s c.args.y q ≡ true = sym (c.members.ensures.pair c.args.s c.args.y) ∙ sym c.is_pair.ensures ∙ c.if-is_pair.true in
+    let is : composes F c.args.s c.args.y q ≡ true = sym (c.composite_members.ensures.pair c.args.s c.args.y) ∙ sym c.is_pair.ensures ∙ c.if-is_pair.true in
     let inside : q < 1114112 = pair_inside (words_at c.args.version c.args.self.now) (rests_at c.args.version c.args.self.now) c.args.s c.args.y q is in
     pair_found F c.args.s c.args.y q inside
     (none_more (composes F c.args.s c.args.y) c.listed.from q c.listed.invariant.none (λ k from lt. pair_unlisted F c.args.self.now.index c.args.s c.args.y k (listed_at c.args.version c.args.self.now) (c.in-Some.ensures.3 k from lt))) is
@@ -25,7 +25,7 @@ pub listed-preserved : goal.listed-preserved
 listed-preserved g c =
     let F : ℕ → Facts = facts_at c.args.version c.args.self.now in
     let q : ℕ = c.in-Some.q in
-    let other : composes F c.args.s c.args.y q ≡ false = sym (c.members.ensures.pair c.args.s c.args.y) ∙ sym c.is_pair.ensures ∙ c.if-is_pair.false in
+    let other : composes F c.args.s c.args.y q ≡ false = sym (c.composite_members.ensures.pair c.args.s c.args.y) ∙ sym c.is_pair.ensures ∙ c.if-is_pair.false in
     record {
       within = omega (arith, c.number-from.ensures.bound);
       none = none_next (composes F c.args.s c.args.y) q c.number-from.result c.number-from.ensures.value

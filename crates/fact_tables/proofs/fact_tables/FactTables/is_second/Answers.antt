@@ -10,7 +10,7 @@ pub returns-then-ends_pair : goal.returns-then-ends_pair
 returns-then-ends_pair g c =
     let F : ℕ → Facts = facts_at c.args.version c.args.self.now in
     let q : ℕ = c.in-Some.q in
-    let is : ends_with F c.args.y q ≡ true = sym (c.members.ensures.second c.args.y) ∙ sym c.ends_pair.ensures ∙ c.if-ends_pair.true in
+    let is : ends_with F c.args.y q ≡ true = sym (c.composite_members.ensures.second c.args.y) ∙ sym c.ends_pair.ensures ∙ c.if-ends_pair.true in
     let inside : q < 1114112 = second_inside (words_at c.args.version c.args.self.now) (rests_at c.args.version c.args.self.now) c.args.y q is in
     second_found F c.args.y q inside is
 
@@ -18,7 +18,7 @@ pub listed-preserved : goal.listed-preserved
 listed-preserved g c =
     let F : ℕ → Facts = facts_at c.args.version c.args.self.now in
     let q : ℕ = c.in-Some.q in
-    let other : ends_with F c.args.y q ≡ false = sym (c.members.ensures.second c.args.y) ∙ sym c.ends_pair.ensures ∙ c.if-ends_pair.false in
+    let other : ends_with F c.args.y q ≡ false = sym (c.composite_members.ensures.second c.args.y) ∙ sym c.ends_pair.ensures ∙ c.if-ends_pair.false in
     record {
       within = omega (arith, c.number-from.ensures.bound);
       none = none_next (ends_with F c.args.y) q c.number-from.result c.number-from.ensures.value

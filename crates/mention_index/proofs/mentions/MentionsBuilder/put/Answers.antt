@@ -10,11 +10,11 @@ use Rattle.mention_index.proofs.mentions.MentionsBuilder.put.Goals as goal
 over : (has : ℕ → Bool) (c : ℕ) (G H : Facts) → G ≡ H → LeadFrom has (members_of c G) c → LeadFrom has (members_of c H) c
 over has c G H same lead = subst (λ (facts : Facts). LeadFrom has (members_of c facts) c) same lead
 
-pub returns-in_ok-put_first_step-clause-put : goal.returns-in_ok-put_first_step-clause-put
-returns-in_ok-put_first_step-clause-put g c =
+pub returns-in_ok-put_first_member_step-clause-put : goal.returns-in_ok-put_first_member_step-clause-put
+returns-in_ok-put_first_member_step-clause-put g c =
     let F : ℕ → Facts = g.W.FactView.facts_of c.args.view.now in
-    let has : ℕ → Bool = has_key c.put_first_step.new.keys.items in
+    let has : ℕ → Bool = has_key c.put_first_member_step.new.keys.items in
     record {
-      members = λ x e ne. c.put_first_step.ensures.grows (key x c.args.c) (over (has_key c.put_members.new.keys.items) c.args.c (shown_facts c.facts-facts.result) (F c.args.c) c.facts-facts.ensures c.in_ok-put_members.ensures.put x e ne);
-      first = λ s y composes. c.in_ok-put_first_step.ensures.put s (y ∷ []) (ap (λ (facts : Facts). facts.mapping) c.facts-facts.ensures ∙ composes.mapping);
+      members = λ x e ne. c.put_first_member_step.ensures.grows (key x c.args.c) (over (has_key c.put_members.new.keys.items) c.args.c (shown_facts c.facts-facts.result) (F c.args.c) c.facts-facts.ensures c.in_ok-put_members.ensures.put x e ne);
+      first = λ s y composes. c.in_ok-put_first_member_step.ensures.put s (y ∷ []) (ap (λ (facts : Facts). facts.mapping) c.facts-facts.ensures ∙ composes.mapping);
     }

@@ -18,14 +18,14 @@ returns-in-Some-clause-goes g c =
 
 pub returns-then-slot-self-clause-steps : goal.returns-then-slot-self-clause-steps
 returns-then-slot-self-clause-steps g c =
-    let none = none_left (g.S.Seek.passing c.parts.self-inside.seek.now) c.parts.self-inside.entries.now c.parts.self-inside.parts.now c.parts.self-inside.slot c.next_slot-slot.result c.args.self.now
-    c.parts.invariant.left c.in_default.ensures c.next_slot-slot.ensures.from c.next_slot-slot.ensures.ruled (omega (arith, c.if-slot-self.true)) in
+    let none = none_left (g.S.Seek.passing c.parts.self-inside.seek.now) c.parts.self-inside.entries.now c.parts.self-inside.parts.now c.parts.self-inside.slot c.next_candidate_slot-slot.result c.args.self.now
+    c.parts.invariant.left c.in_default.ensures c.next_candidate_slot-slot.ensures.from c.next_candidate_slot-slot.ensures.ruled (omega (arith, c.if-slot-self.true)) in
     (none, c.parts.invariant.left ∙ none)
 
 pub parts-preserved : goal.parts-preserved
 parts-preserved g c = record {
-  left = part_begun (g.S.Seek.passing c.parts.self-inside.seek.now) c.parts.self-inside.entries.now c.parts.self-inside.parts.now c.parts.self-inside.slot c.next_slot-slot.result c.index-self-slot.result c.candidates-self-inside.result.now c.args.self.now
-      c.parts.invariant.left c.in_default.ensures c.next_slot-slot.ensures.from c.next_slot-slot.ensures.ruled (omega (arith, c.if-slot-self.false)) c.index-self-slot.is
+  left = part_begun (g.S.Seek.passing c.parts.self-inside.seek.now) c.parts.self-inside.entries.now c.parts.self-inside.parts.now c.parts.self-inside.slot c.next_candidate_slot-slot.result c.index-self-slot.result c.candidates-self-inside.result.now c.args.self.now
+      c.parts.invariant.left c.in_default.ensures c.next_candidate_slot-slot.ensures.from c.next_candidate_slot-slot.ensures.ruled (omega (arith, c.if-slot-self.false)) c.index-self-slot.is
       (c.candidates-self-inside.ensures ∙ ap (λ (part : PartValue _). filter (g.S.Seek.passing c.parts.self-inside.seek.now) part.next) (sym c.index-self-slot.is));
   covers = c.parts.invariant.covers;
 }

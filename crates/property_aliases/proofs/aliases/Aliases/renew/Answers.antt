@@ -17,7 +17,7 @@ returns-then-not-edited-clause-aliases c =
     let old = told_by c.requires.old in
     let before = c.requires.numbers in
     let now = c.in_ok-same.ensures.numbers c.requires.old c.requires.numbers c.requires.same in
-    let names : HasSameNames c.renew.new.self c.args.self.now.numbers = c.in_ok-same.ensures.same (c.if-same.true) in
+    let names : HasSameNames c.renew_and_compare.new.self c.args.self.now.numbers = c.in_ok-same.ensures.same (c.if-same.true) in
     let off : c.args.edited.aliases ≡ false = not-true c.args.edited.aliases c.if-not-edited.true in
     let properties : old.properties ≡ next.properties = ap alias_rows (c.requires.same.properties off) in
     let values : old.values ≡ next.values = ap alias_rows (c.requires.same.values off) in
@@ -39,7 +39,7 @@ returns-then-not-edited-clause-aliases c =
 pub returns-clause-aliases : goal.returns-clause-aliases
 returns-clause-aliases c =
     let s = sources_of c.args.release.now in
-    let a : Aliases = record { numbers = c.renew.new.self; places = c.in_ok-self.field-0 } in
+    let a : Aliases = record { numbers = c.renew_and_compare.new.self; places = c.in_ok-self.field-0 } in
     let are = c.in_ok-same.ensures.numbers c.requires.old c.requires.numbers c.requires.same in
     let named : (key : List ℕ) → index_in a key ≡ index_named s key = λ key.
     ap (option_map index_at) (c.in_ok-self.ensures.properties key ∙ ap (λ (names : List (List ℕ)). number_of (built_in_names ++ names) s.properties key) are.listed.names_are) in

@@ -35,14 +35,14 @@ added_gap-requires-clause-leads c =
     let found : IsSoughtRow inside.file c.args.row.now inside.text c.search_row-search.result = rw (← c.as_slice.ensures) c.search_row-search.ensures in
     rw (found.file_is, found.text_is) c.self.invariant.3
 
-pub lead_count-count-requires-clause-gap : goal.lead_count-count-requires-clause-gap
-lead_count-count-requires-clause-gap c =
+pub gap_place_for_leads-count-requires-clause-gap : goal.gap_place_for_leads-count-requires-clause-gap
+gap_place_for_leads-count-requires-clause-gap c =
     let inside = c.self.inside in
     let found = finds_gap (Ok c.in_ok-gap.gap) inside.file c.args.row.now inside.text c.search_row-search.result inside.items.next (rw (← c.as_slice.ensures) c.search_row-search.ensures) c.in_ok-gap.ensures in
     (place_in inside.file c.args.row.now (items_of inside.file inside.text inside.items.next), found.2)
 
-pub lead_count-count-requires-clause-few : goal.lead_count-count-requires-clause-few
-lead_count-count-requires-clause-few c =
+pub gap_place_for_leads-count-requires-clause-few : goal.gap_place_for_leads-count-requires-clause-few
+gap_place_for_leads-count-requires-clause-few c =
     let few = c.self.invariant.0.few_next in
     let added = c.self.invariant.0.few_added in
     omega arith
@@ -89,10 +89,10 @@ invariant_of-self-2 c =
     let old : KeepLeads inside.file c.store_row.new.text items inside.leads = rw c.in_ok-entry.ensures.ok (leads_kept inside.file inside.text bytes items inside.leads c.self.invariant.3) in
     let content : content_at c.store_row.new.text c.in_ok-entry.entry.item ≡ bytes = ap (λ (item : FileItem). item.content) c.in_ok-entry.ensures.item in
     let gives : GivesRow inside.file c.store_row.new.text c.in_ok-entry.entry.item row = record { fits = c.in_ok-entry.ensures.stored.item.fits; reads = rw content (subst (λ (l : FileLists). row_or_fault l.file bytes ≡ Ok row) (sym c.self.view_is) c.requires.reads) } in
-    let place = c.lead_count-count.ensures (place_in inside.file row items) found.2 in
+    let place = c.gap_place_for_leads-count.ensures (place_in inside.file row items) found.2 in
     let within = gap_within c.in_ok-gap.gap (place_in inside.file row items) inside.items.next found.2 in
     let long = length-map (next_in inside.items) (stored_at inside.file inside.text) in
-    let leads = leads_of inside.file row c.store_row.new.text c.search_row-search-2.result items (map (stored_at inside.file c.store_row.new.text) (next_in c.put_in.new.items)) (added_item row bytes) c.lead_count-count.result c.in_ok-entry.entry.item inside.leads c.note.new.self second gives place (omega arith) old new refl c.note.ensures in
+    let leads = leads_of inside.file row c.store_row.new.text c.search_row-search-2.result items (map (stored_at inside.file c.store_row.new.text) (next_in c.put_in.new.items)) (added_item row bytes) c.gap_place_for_leads-count.result c.in_ok-entry.entry.item inside.leads c.note_added_row.new.self second gives place (omega arith) old new refl c.note_added_row.ensures in
     let hashes = notes_edited inside.file inside.text bytes inside.added inside.seen_hashes c.store_row.new.seen_hashes inside.items c.put_in.new.items c.self.invariant.0 c.self.invariant.2 c.store_row.ensures.grows c.in_ok-put_in.ensures.now all in
     (rw c.in_ok-entry.ensures.ok (kept_edited inside.file inside.text c.args.bytes.now inside.added c.in-Some.added inside.items c.put_in.new.items c.self.invariant.0 c.in_ok-put_in.ensures.now (subst (λ (t : List ℕ). All (IsStored inside.file t) (next_in c.put_in.new.items)) c.in_ok-entry.ensures.ok next) (omega arith) (omega arith) (omega arith)), λ e. absurd cc, rw c.in_ok-entry.ensures.ok hashes, leads)
 

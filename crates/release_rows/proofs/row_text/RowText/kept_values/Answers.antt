@@ -47,5 +47,5 @@ pub returns : goal.returns
 returns c =
     let t = c.self.inside in
     let row = read_as t.file t.content.now in
-    let ok : RowOk t.file row = (c.rows_are_ok.ensures t.file row).1 (t.content.now, (c.rows_are_read.ensures t.file t.content.now row).0 c.self.invariant.read) in
+    let ok : RowOk t.file row = (c.possible_rows_are_readable.ensures t.file row).1 (t.content.now, (c.rows_are_read.ensures t.file t.content.now row).0 c.self.invariant.read) in
     rw (← c.self.view_is) (if_kept c.values.result t.file row t.brief t.first c.values.ensures.some (rw (← c.in_ok-new.ensures.1) c.values.ensures.gives) c.self.invariant.brief ok)

@@ -31,5 +31,5 @@ returns-in_default-file c =
     let file = c.self.inside.file in
     let bytes = c.self.inside.content.now in
     let row = read_as file bytes in
-    let ok : RowOk file row = (c.rows_are_ok.ensures file row).1 (bytes, (c.rows_are_read.ensures file bytes row).0 c.self.invariant.read) in
+    let ok : RowOk file row = (c.possible_rows_are_readable.ensures file row).1 (bytes, (c.rows_are_read.ensures file bytes row).0 c.self.invariant.read) in
     rw (← c.self.view_is) (no_given file row c.in_default-file.not-UnicodeData ok)

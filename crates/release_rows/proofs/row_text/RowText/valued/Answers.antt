@@ -39,5 +39,5 @@ returns-then-not-has_values c =
     let file = c.self.inside.file in
     let bytes = c.self.inside.content.now in
     let row = read_as file bytes in
-    let ok : RowOk file row = (c.rows_are_ok.ensures file row).1 (bytes, (c.rows_are_read.ensures file bytes row).0 c.self.invariant.read) in
+    let ok : RowOk file row = (c.possible_rows_are_readable.ensures file row).1 (bytes, (c.rows_are_read.ensures file bytes row).0 c.self.invariant.read) in
     rw (← c.self.view_is) (no_value file row (sym c.has_values.ensures ∙ c.if-not-has_values.true) ok)

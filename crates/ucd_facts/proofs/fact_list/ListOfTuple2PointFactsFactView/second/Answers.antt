@@ -6,7 +6,7 @@ use Rattle.ucd_facts.proofs.fact_list.ListOfTuple2PointFactsFactView.second.Goal
 pub returns-in-points : goal.returns-in-points
 returns-in-points c =
     let q : ℕ = c.in-Some.q in
-    sym (second_of_some (facts_in c.args.self.now) c.args.y q (omega (arith, c.in-Some.ensures, c.point_count-number-end.ensures.value)) (sym c.ends_with.ensures ∙ c.if-ends_with.true))
+    sym (second_of_some (facts_in c.args.self.now) c.args.y q (omega (arith, c.in-Some.ensures, c.point_count-number-end.ensures.value)) (sym c.is_composite_ending_with.ensures ∙ c.if-is_composite_ending_with.true))
 
 pub returns : goal.returns
 returns c = sym (second_of_none (facts_in c.args.self.now) c.args.y (λ k below. c.points.invariant k (omega (arith, c.point_count-number-end.ensures.value))))

@@ -10,14 +10,14 @@ use Rattle.unicodeset_eval.specs.RowSetLaws.{some_names}
 use Rattle.unicodeset_eval.specs.Tests.{is_listed, is_numbered}
 use Rattle.unicodeset_eval.proofs.row_sets.RowSets.renewed.Goals as goal
 
-pub behind_again-requires : goal.behind_again-requires
-behind_again-requires c = record {
+pub renewed_sets_behind_default-requires : goal.renewed_sets_behind_default-requires
+renewed_sets_behind_default-requires c = record {
   some = subst (λ (v : FileValues). 0 < length v.names.keys) (sym c.scripts.ensures) (some_names c.args.numbers.now.scripts default_script (rows_now c.args.release.now Scripts) c.requires.numbers.scripts);
 }
 
-pub behind_again-requires-2 : goal.behind_again-requires-2
-behind_again-requires-2 c = record {
-  some = subst (λ (v : FileValues). 0 < length v.names.keys) (sym c.breaks.ensures) (some_names c.args.numbers.now.breaks default_word_break (rows_now c.args.release.now WordBreakProperty) c.requires.numbers.breaks);
+pub renewed_sets_behind_default-requires-2 : goal.renewed_sets_behind_default-requires-2
+renewed_sets_behind_default-requires-2 c = record {
+  some = subst (λ (v : FileValues). 0 < length v.names.keys) (sym c.word_breaks.ensures) (some_names c.args.numbers.now.breaks default_word_break (rows_now c.args.release.now WordBreakProperty) c.requires.numbers.breaks);
 }
 
 -- the sets that stay are of the same rows
@@ -28,7 +28,7 @@ returns c =
     record {
       scripts = c.in_ok-scripts.ensures default_script (rows Scripts) (subst (λ (v : FileValues). AreValues v (script_names (rows Scripts)) (rows Scripts)) (sym c.scripts.ensures) c.requires.numbers.scripts) c.rows_are_apart.ensures
           (λ off k x lt. kept.are.scripts k x lt ∙ ap (λ (xs : List Row). is_numbered (script_names xs) k (script_at xs x)) (kept.same.scripts off));
-      breaks = c.in_ok-breaks.ensures default_word_break (rows WordBreakProperty) (subst (λ (v : FileValues). AreValues v (break_names (rows WordBreakProperty)) (rows WordBreakProperty)) (sym c.breaks.ensures) c.requires.numbers.breaks) c.rows_are_apart-2.ensures
+      breaks = c.in_ok-breaks.ensures default_word_break (rows WordBreakProperty) (subst (λ (v : FileValues). AreValues v (break_names (rows WordBreakProperty)) (rows WordBreakProperty)) (sym c.word_breaks.ensures) c.requires.numbers.breaks) c.rows_are_apart-2.ensures
           (λ off k x lt. kept.are.breaks k x lt ∙ ap (λ (xs : List Row). is_numbered (break_names xs) k (word_break_at xs x)) (kept.same.breaks off));
       listed = c.in_ok-listed.ensures (rows PropList) (subst (λ (v : FileValues). AreValues v (listed_names (rows PropList)) (rows PropList)) (sym c.listed.ensures) c.requires.numbers.listed)
           (λ off k x. kept.are.listed k x ∙ ap (λ (xs : List Row). is_listed xs k x) (kept.same.listed off));

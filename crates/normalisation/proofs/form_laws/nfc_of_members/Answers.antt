@@ -1,5 +1,0 @@
-use Rattle.normalisation.specs.FormProofs.{nfc_of_members}
-use Rattle.normalisation.proofs.form_laws.nfc_of_members.Goals as goal
-
-pub returns : goal.returns
-returns c = nfc_of_members

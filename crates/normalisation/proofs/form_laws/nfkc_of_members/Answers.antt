@@ -1,5 +1,0 @@
-use Rattle.normalisation.specs.FormProofs.{nfkc_of_members}
-use Rattle.normalisation.proofs.form_laws.nfkc_of_members.Goals as goal
-
-pub returns : goal.returns
-returns c = nfkc_of_members

@@ -1,6 +1,0 @@
-use Rattle.std.proofs.lemmas.Bool.{leb-true}
-use Rattle.number_sets.proofs.KeyLemmas.{before_all}
-use Rattle.number_sets.proofs.keys.is_before.Goals as goal
-
-pub returns-else-end-sorted : goal.returns-else-end-sorted
-returns-else-end-sorted c = λ high. before_all c.args.sorted.now c.args.start c.args.end c.requires.ascends (leb-true _ _ high)

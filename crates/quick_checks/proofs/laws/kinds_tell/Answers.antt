@@ -1,5 +1,0 @@
-use Rattle.quick_checks.specs.CheckProofs.{kinds_tell}
-use Rattle.quick_checks.proofs.laws.kinds_tell.Goals as goal
-
-pub returns : goal.returns
-returns c = kinds_tell

@@ -1,5 +1,0 @@
-use Rattle.source_rows.proofs.RowLines as proof
-use Rattle.source_rows.proofs.laws.rows_have_lines.Goals as goal
-
-pub returns : goal.returns
-returns c = proof.rows_have_lines

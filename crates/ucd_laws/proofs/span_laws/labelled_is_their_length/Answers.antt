@@ -1,5 +1,0 @@
-use Rattle.ucd_laws.specs.LabelLawProofs.{labelled_is_their_length}
-use Rattle.ucd_laws.proofs.span_laws.labelled_is_their_length.Goals as goal
-
-pub returns : goal.returns
-returns c = labelled_is_their_length

@@ -1,6 +1,6 @@
 //! The extents of the rows of a file so far.
 
-ghost use Rattle.std.specs.Prelude.{◌≡◌, ◌≤◌, ◌||◌, Bool, None, IfOk, OnOk, OnErr};
+ghost use Rattle.std.specs.Prelude.{◌≡◌, ◌≤◌, ◌||◌, Bool, None, IsSome, IfOk, OnOk, OnErr};
 ghost use Rattle.std.specs.List.{list_any};
 ghost use Rattle.release_rows.specs.Extents.{Extent, conflict_with};
 ghost use Rattle.release_rows.specs.Places.{extent_at};
@@ -107,6 +107,7 @@ impl Extents {
         ensures keys { OnOk result (conflict_with self.old (extent_at place last) ≡ None
             → (p : Extent → Bool)
             → list_any p self.new ≡ (p (extent_at place last) || list_any p self.old)) }
+        ensures stays { IfOk result (λ rule. IsSome rule → self.new ≡ self.old) }
         ensures err { OnErr result (self.new ≡ self.old) }
     {
         match self.checked_place(place, last) {

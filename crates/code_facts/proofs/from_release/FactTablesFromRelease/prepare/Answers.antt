@@ -34,5 +34,5 @@ returns-clause-ok g c =
     on_ok_map c.refill.result _ _
     (λ point. put_facts c.in_ok-made.made rows c.as_slice-4.result.now (words_at Next c.refill.new.self) (rests_at Next c.refill.new.self) (facts_at Next t) point (subst (λ (spans : List Bounds). (k : ℕ) → k < 1114112 → ShowsRows c.in_ok-made.made (rows_within (meets spans) rows) k) (c.as_slice-3.ensures ∙ sym c.as_slice-4.ensures) c.in_ok-made.ensures) c.speaking_rows_meet_spans.ensures
     (λ k lt none. ap (λ (F : ℕ → Facts). F k) c.requires.ready
-    ∙ c.requires.touched k lt (ap (list_any (within k)) (sym c.as_slice-2.ensures) ∙ sym (c.in_ok-spans.ensures k) ∙ ap (list_any (within k)) (sym c.as_slice-4.ensures) ∙ none)))
+    ∙ c.requires.touched k lt (ap (list_any (within k)) (sym c.as_slice-2.ensures) ∙ sym (c.in_ok-spans.ensures.covered k) ∙ ap (list_any (within k)) (sym c.as_slice-4.ensures) ∙ none)))
     c.refill.ensures.ok

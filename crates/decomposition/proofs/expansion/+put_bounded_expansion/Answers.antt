@@ -16,23 +16,23 @@ returns-then-is_empty g t c =
 pub members-init : goal.members-init
 members-init g t c = record { room = c.requires; above = Behind_nothing c.args.points.now c.requires }
 
-pub returns-in_err-put_expansion : goal.returns-in_err-put_expansion
-returns-in_err-put_expansion g t c =
+pub returns-in_err-put_bounded_expansion : goal.returns-in_err-put_bounded_expansion
+returns-in_err-put_bounded_expansion g t c =
     let f : ℕ → Option (List ℕ) = expand (g.W.FactView.facts_of c.args.view.now) c.args.compat (c.args.levels - 1) in
     let mapping : List ℕ = c.mapping_if_counted-mapping.result.now in
     let members = expand_joined (g.W.FactView.facts_of c.args.view.now) c.args.compat c.args.levels c.args.c mapping (omega arith) c.mapping_if_counted-mapping.ensures (has_members _ (length mapping) c.is_empty.ensures c.if-is_empty.false) in
     let value : Option (List ℕ) = f c.member-item.result in
     let none = λ (e : value ≡ None). members ∙ walk_none f mapping c.members.member-index c.member-item.result (omega arith) c.member-item.is e in
-    let p = err_from_is_err_and c.from_residual-in_err-put_expansion.result c.from_residual-in_err-put_expansion.ensures.1 in
-    rw (p.1, p.2) (Puts_err c.args.points.now c.members.points c.put_bounded_expansion.new.points c.put_bounded_expansion.new.points _ value _ c.in_err-put_expansion.ensures none)
+    let p = err_from_is_err_and c.from_residual-in_err-put_bounded_expansion.result c.from_residual-in_err-put_bounded_expansion.ensures.1 in
+    rw (p.1, p.2) (Puts_err c.args.points.now c.members.points c.put_bounded_expansion.new.points c.put_bounded_expansion.new.points _ value _ c.in_err-put_bounded_expansion.ensures none)
 
 pub members-preserved : goal.members-preserved
 members-preserved g t c =
     let f : ℕ → Option (List ℕ) = expand (g.W.FactView.facts_of c.args.view.now) c.args.compat (c.args.levels - 1) in
     let mapping : List ℕ = c.mapping_if_counted-mapping.result.now in
     record {
-      room = Behind_room c.members.points c.put_bounded_expansion.new.points (f c.member-item.result) c.in_ok-put_expansion.ensures;
-      above = walk_more f mapping c.members.member-index c.member-item.result (omega arith) c.member-item.is c.args.points.now c.members.points c.put_bounded_expansion.new.points c.members.invariant.above c.in_ok-put_expansion.ensures;
+      room = Behind_room c.members.points c.put_bounded_expansion.new.points (f c.member-item.result) c.in_ok-put_bounded_expansion.ensures;
+      above = walk_more f mapping c.members.member-index c.member-item.result (omega arith) c.member-item.is c.args.points.now c.members.points c.put_bounded_expansion.new.points c.members.invariant.above c.in_ok-put_bounded_expansion.ensures;
     }
 
 pub returns : goal.returns

@@ -3,8 +3,8 @@ use Rattle.ucd_facts.specs.Expansion.{joined, expand}
 use Rattle.decomposition.specs.Walk.{Behind}
 use Rattle.decomposition.proofs.expansion.+put_bounded_expansion.Given as goal
 
-abbrev pub decreases-put_expansion : goal.decreases-put_expansion
-decreases-put_expansion g l = l.levels
+abbrev pub decreases-put_bounded_expansion : goal.decreases-put_bounded_expansion
+decreases-put_bounded_expansion g l = l.levels
 
 -- what stands now is the points at first, and behind them what the members so far give
 abbrev pub invariant-members : goal.invariant-members

@@ -11,7 +11,7 @@ returns-in-Some-clause-missing c = on_ok_then c.put_row.result c.put_row.ensures
     (numbered_still (names_in c.args.names.now) c.in-Some.text.value.now c.args.missing.now.items above (missing_row_of c.args.row.now) none are))
 
 pub returns-in-Some-missing_row_value-clause-rows : goal.returns-in-Some-missing_row_value-clause-rows
-returns-in-Some-missing_row_value-clause-rows c = on_ok_then c.put_row-in-Some-missing.result c.put_row-in-Some-missing.ensures.names (λ more above are.
+returns-in-Some-missing_row_value-clause-rows c = on_ok_then c.put_row-in-Some-missing_row_value.result c.put_row-in-Some-missing_row_value.ensures.names (λ more above are.
     let none = not_shown c.args.row.now c.in_default.ensures in
     subst (λ (names : List (List ℕ)). AreNumbered names c.args.rows.now.items (above ++ value_row_of c.args.row.now)) (sym more)
-    (numbered_still (names_in c.args.names.now) c.in-Some-missing.text.value.now c.args.rows.now.items above (value_row_of c.args.row.now) none are))
+    (numbered_still (names_in c.args.names.now) c.in-Some-missing_row_value.text.value.now c.args.rows.now.items above (value_row_of c.args.row.now) none are))

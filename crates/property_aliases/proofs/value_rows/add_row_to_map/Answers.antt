@@ -39,10 +39,10 @@ returns c =
     let kind = c.names_kind_of.result in
     let f : ℕ → List ℕ → Option ℕ = λ i. number_at maps (kind_of (property_by i)) in
     let below : kind < length maps = omega (arith, c.names_kind_of.ensures.below, c.requires.kinds) in
-    let found : slice_get maps kind ≡ Some c.index-kinds-kind_of.result = slice_get_read maps (length maps) kind c.index-kinds-kind_of.result refl below c.index-kinds-kind_of.is in
-    let from : f c.args.index ≡ number_in c.index-kinds-kind_of.result =
+    let found : slice_get maps kind ≡ Some c.index-kinds-names_kind_of.result = slice_get_read maps (length maps) kind c.index-kinds-names_kind_of.result refl below c.index-kinds-names_kind_of.is in
+    let from : f c.args.index ≡ number_in c.index-kinds-names_kind_of.result =
     ap {B = List ℕ → Option ℕ} (λ k. number_at maps k) (ap kind_of (sym c.property_by.ensures) ∙ sym c.names_kind_of.ensures.kind)
     ∙ ap {B = List ℕ → Option ℕ} (λ (m : Option NumberMap) key. option_map_or (λ x. number_in x key) m None) found in
     let reached = c.make_maps_up_to.new.maps.items in
     let slot = slice_get_read reached (length reached) c.args.index c.index_mut.result.now refl c.in_ok-make_maps_up_to.ensures.reached c.index_mut.ensures.value in
-    on_ok_weaker c.add_row.result (one_more c.args.maps.now.items reached c.args.index c.index_mut.result.now c.add_row.new.rows c.index-kinds-kind_of.result f c.args.row.now c.in_ok-make_maps_up_to.ensures.reached c.in_ok-make_maps_up_to.ensures.numbers slot from) c.add_row.ensures
+    on_ok_weaker c.add_row.result (one_more c.args.maps.now.items reached c.args.index c.index_mut.result.now c.add_row.new.rows c.index-kinds-names_kind_of.result f c.args.row.now c.in_ok-make_maps_up_to.ensures.reached c.in_ok-make_maps_up_to.ensures.numbers slot from) c.add_row.ensures

@@ -7,8 +7,8 @@ use Rattle.fact_tables.specs.KeptFactsLemmas.{kept_point}
 use Rattle.fact_tables.proofs.PlainLemmas.{unmapped_plain}
 use Rattle.fact_tables.proofs.fact_tables.FactTables.last_plain.Goals as goal
 
-pub returns-then-is_none-clause-itself_if_plain : goal.returns-then-is_none-clause-itself_if_plain
-returns-then-is_none-clause-itself_if_plain g c =
+pub returns-then-is_none-clause-plain : goal.returns-then-is_none-clause-plain
+returns-then-is_none-clause-plain g c =
     let t = c.args.self.now in
     let none : rests_at Now t c.args.c ≡ no_rest = sym c.get-rest.ensures ∙ c.is_none.ensures c.if-is_none.true in
     (λ _. unmapped_plain (words_at Now t) (rests_at Now t) c.args.c (omega (arith, c.number-first.ensures.value, c.number-first.ensures.bound)) none, λ _. refl)
@@ -23,8 +23,8 @@ returns-then-is_none-clause-stretch g c =
           unmapped_plain (words_at Now t) (rests_at Now t) d (omega (arith, high, c.number-last.ensures.value, c.number-last.ensures.bound)) (c.last_of_stretch-last.ensures.same d low high ∙ none);
     }
 
-pub returns-then-not-is_empty-clause-itself_if_plain : goal.returns-then-not-is_empty-clause-itself_if_plain
-returns-then-not-is_empty-clause-itself_if_plain g c =
+pub returns-then-not-is_empty-clause-plain : goal.returns-then-not-is_empty-clause-plain
+returns-then-not-is_empty-clause-plain g c =
     let t = c.args.self.now in
     let kept = kept_point (words_at Now t) (rests_at Now t) c.args.c (omega (arith, c.number-first.ensures.value, c.number-first.ensures.bound)) in (
       λ e. absurd cc,

@@ -64,7 +64,7 @@ fn reach_between<T: Copy>(entries: &[Entry<T>], reach: Reach, from: usize, to: u
 }
 
 /// Whether bounds tell that none of the entries in order from one place up to another one passes.
-fn none_passes_between<T: Copy, S: Seek<T>>(
+fn surely_none_between<T: Copy, S: Seek<T>>(
     entries: &[Entry<T>],
     reach: Reach,
     seek: &S,
@@ -91,7 +91,7 @@ fn first_possible<T: Copy, S: Seek<T>>(entries: &[Entry<T>], reach: Reach, seek:
     let mut to = entries.len();
     'halves: while from < to {
         let middle = to - (to - from) / 2;
-        if none_passes_between(entries, reach, seek, from, middle) {
+        if surely_none_between(entries, reach, seek, from, middle) {
             from = middle;
         } else {
             to = middle - 1;
@@ -115,10 +115,10 @@ fn end_of_possible<T: Copy, S: Seek<T>>(
     ensures none { NoneIn (S.passing seek.now) entries.now result (length entries.now) }
 {
     let len = entries.len();
-    if from < len && none_passes_between(entries, reach, seek, from, len) {
+    if from < len && surely_none_between(entries, reach, seek, from, len) {
         return from;
     }
-    if len - from > 1 && none_passes_between(entries, reach, seek, from + 1, len) {
+    if len - from > 1 && surely_none_between(entries, reach, seek, from + 1, len) {
         return from + 1;
     }
     len

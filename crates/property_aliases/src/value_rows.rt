@@ -103,7 +103,7 @@ fn add_value_row(
 /// the first name names. Only rows of alias files give names a place.
 ///
 /// - `Memory`: memory ran out.
-fn add_row_read(
+fn add_if_alias_row(
     alloc: Global,
     properties: &Names,
     kinds: &[NumberMap],
@@ -127,7 +127,7 @@ fn add_row_read(
 /// the first name names. Only rows of alias files give names a place. The row is read from its bytes, and let go of.
 ///
 /// - `Memory`: memory ran out.
-fn add_row_of(
+fn read_and_add_row(
     alloc: Global,
     properties: &Names,
     kinds: &[NumberMap],
@@ -142,7 +142,7 @@ fn add_row_of(
         (flat_map (behind (index_in_names properties.now) i) (alias_of row.now)) key)) }
 {
     let read = row.read(alloc)?;
-    add_row_read(alloc, properties, kinds, maps, &read)
+    add_if_alias_row(alloc, properties, kinds, maps, &read)
 }
 
 /// For each property, the least place to which the rows that speak of it tie each of their later names. A row is let go of
@@ -165,7 +165,7 @@ fn numbers_of(
     let mut left = rows;
     let mut maps = Vec::new(alloc);
     'rows: while let Some((_line, row)) = left.next() {
-        add_row_of(alloc, properties, kinds, &mut maps, &row)?;
+        read_and_add_row(alloc, properties, kinds, &mut maps, &row)?;
     }
     Ok(maps)
 }

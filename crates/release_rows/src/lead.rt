@@ -117,8 +117,8 @@ fn is_in_group_below(lead: Lead, search: &Search<'_>) -> bool
     is_of_group(lead, search) && compare_search_with_lead(lead, search).is_gt()
 }
 
-/// How many items are passed by a lead: none of them has a row of the group that is looked for with a greater key.
-fn skippable_by_lead(lead: Lead, search: &Search<'_>) -> usize
+/// The least place that a lead leaves open: no item before it has a row of the group that is looked for with a greater key.
+fn least_place_by_lead(lead: Lead, search: &Search<'_>) -> usize
     ensures { (row : RowValue) (items : List FileItem)
         → IsSoughtRow search.now.file row search.now.text search.now
         → IsLead search.now.file search.now.text items lead
@@ -131,8 +131,8 @@ fn skippable_by_lead(lead: Lead, search: &Search<'_>) -> usize
     0
 }
 
-/// How many items are passed by leads that ascend by their keys.
-fn skippable_items(leads: &[Lead], search: &Search<'_>) -> usize
+/// The least place that leads leave open, if they ascend by their keys.
+fn least_place_by_leads(leads: &[Lead], search: &Search<'_>) -> usize
     ensures { (row : RowValue) (items : List FileItem)
         → IsSoughtRow search.now.file row search.now.text search.now
         → AreLeads search.now.file search.now.text items leads.now
@@ -142,7 +142,7 @@ fn skippable_items(leads: &[Lead], search: &Search<'_>) -> usize
     if place == 0 {
         return 0;
     }
-    skippable_by_lead(leads[place - 1], search)
+    least_place_by_lead(leads[place - 1], search)
 }
 
 /// The lead, if the row that is looked for is put in behind so many items.
@@ -211,7 +211,7 @@ fn note_row(leads: &mut Vec<Lead>, search: &Search<'_>, count: usize, item: Stor
         → AreLeads search.now.file search.now.text items leads.old.items
         → AreLeads search.now.file search.now.text (put_in items count added) leads.new.items }
 {
-    let seen = skippable_items(leads, search);
+    let seen = least_place_by_leads(leads, search);
     move_all(leads, search, count);
     if count.saturating_sub(seen) <= FEW {
         return;
@@ -261,7 +261,7 @@ impl Leads {
             → NoneFollows search.now.file row (take result items) }
     {
         match &self.list {
-            Some(leads) => skippable_items(leads, search),
+            Some(leads) => least_place_by_leads(leads, search),
             None => 0,
         }
     }

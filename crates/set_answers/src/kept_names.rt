@@ -127,12 +127,12 @@ impl KeptNames {
     {
         let kept = self.names.take();
         let names = names_by(alloc, release, kept, self.edited)?;
-        self.put(names);
+        self.put_up_to_date(names);
         Ok(())
     }
 
     /// Keeps names and sets that were just made.
-    fn put(&mut self, names: RowNames)
+    fn put_up_to_date(&mut self, names: RowNames)
         ensures { self.new.names ≡ Some names }
     {
         self.names = Some(names);

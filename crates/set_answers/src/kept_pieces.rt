@@ -95,7 +95,7 @@ impl KeptPieces {
         match self.pieces.take() {
             Some(pieces) => {
                 let pieces = pieces.renewed(alloc, bench, &self.changed)?;
-                self.put(alloc, pieces);
+                self.put_up_to_date(alloc, pieces);
                 Ok(true)
             }
             None => Ok(false),
@@ -119,12 +119,12 @@ impl KeptPieces {
     {
         let pieces = RecordPieces::of(alloc, bench, spans)?;
         self.noted = 0;
-        self.put(alloc, pieces);
+        self.put_up_to_date(alloc, pieces);
         Ok(())
     }
 
     /// Keeps pieces that were just made.
-    fn put(&mut self, alloc: Global, pieces: RecordPieces)
+    fn put_up_to_date(&mut self, alloc: Global, pieces: RecordPieces)
         ensures pieces { self.new.pieces ≡ Some pieces }
         ensures changed { (c : ℕ) → has self.new.changed c ≡ false }
     {

@@ -13,7 +13,7 @@ use Rattle.source_rows.specs.Lines.{has_first_name, has_last_name, are_first_fie
 use Rattle.source_rows.specs.Steps.{or_fault, and_then}
 use Rattle.source_rows.specs.DataFaults.{at_least_one, is_gt, canonical_or_fault, compat_or_fault, decomposition_or_fault, values_or_fault, unit_of, unit_or_fault, single_or_fault, first_label, are_last_fields, pair_end, pair_or_fault}
 use Rattle.source_rows.specs.Faults.{row_or_fault, Row}
-use Rattle.source_rows.specs.Ranges.{NoEnd, FirstLine, FirstLinesTellRangeFaults}
+use Rattle.source_rows.specs.Ranges.{NoEnd, FirstLine, FirstLineFaultsStay}
 use Rattle.source_rows.specs.declared.decomposition.Decomposition.{Decomposition}
 use Rattle.source_rows.specs.declared.data_values.Values.{Values}
 use Rattle.source_rows.specs.declared.fault.RowFault.{RowFault}
@@ -112,9 +112,9 @@ no_row_alone fs row first =
     let name = first_is_name (field fs 1) k.1 in
     (first_line fs fs (point_of (field fs 0)) (values_or_fault fs) (first_label fs) (field fs 1) refl refl name refl (single_or_fault fs) (pair_or_fault fs fs) (single_is_first fs first name) (pair_is_first fs fs first)).no_row row
 
-pub first_lines_begin : FirstLinesTellRangeFaults
+pub first_line_faults_stay : FirstLineFaultsStay
 unfolding row_or_fault
-first_lines_begin front last one other first =
+first_line_faults_stay front last one other first =
     let fs = fields UnicodeData (without_return front) in
     let gs = fields UnicodeData last in
     let k = and_parts (eqb (length fs) 15) (has_first_name (field fs 1)) first in

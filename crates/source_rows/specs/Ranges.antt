@@ -7,7 +7,7 @@
 -- FirstLine fs last alone given   what is found of a first line alone and of the two lines, by their fields: alone it is no row;
 --                                 where alone it has G09, OwnFieldsRead and PairFaults; any other fault of it is that of the two
 --                                 lines
--- FirstLinesTellRangeFaults                 a first line by itself is no row. Where it has G09, its own fields are read, and the two lines
+-- FirstLineFaultsStay             a first line by itself is no row. Where it has G09, its own fields are read, and the two lines
 --                                 have `PairFaults`; any other fault of it is the fault of the two lines
 use Rattle.std.specs.Prelude.{◌≡◌, ◌≢◌, ◌⊎◌, ◌↔◌, ℕ, ◌<◌, true, false, List, ◌∷◌, ◌++◌, Option, Some, None, Result, Ok, Err, IsSome, IsOk}
 use Rattle.ucd_points.specs.Lines.{holds_line_feed, without_return}
@@ -39,5 +39,5 @@ pub record FirstLine (fs last : List (List ℕ)) (alone given : Result Row RowFa
   pub lacks_last : alone ≡ Err G09 → OwnFieldsRead fs × PairFaults fs last given
   pub own_fault : (fault : RowFault) → fault ≢ G09 → alone ≡ Err fault → given ≡ Err fault
 
-abbrev pub FirstLinesTellRangeFaults : Type 0
-FirstLinesTellRangeFaults = (front last : List ℕ) → holds_line_feed front ≡ false → holds_line_feed last ≡ false → is_first_line (without_return front) ≡ true → FirstLine (fields UnicodeData (without_return front)) (fields UnicodeData last) (row_or_fault UnicodeData (without_return front)) (row_or_fault UnicodeData (front ++ 10 ∷ last))
+abbrev pub FirstLineFaultsStay : Type 0
+FirstLineFaultsStay = (front last : List ℕ) → holds_line_feed front ≡ false → holds_line_feed last ≡ false → is_first_line (without_return front) ≡ true → FirstLine (fields UnicodeData (without_return front)) (fields UnicodeData last) (row_or_fault UnicodeData (without_return front)) (row_or_fault UnicodeData (front ++ 10 ∷ last))

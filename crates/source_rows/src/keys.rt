@@ -99,7 +99,7 @@ fn read_code_key(alloc: Global, text: &[u8]) -> Result<Key, RowStop>
 /// - `Fault(G04)`: it is no code point and no span.
 /// - `Memory`: memory ran out.
 #[tactic(auto, unfolding(crate::specs::KeyGrammar::missing_key))]
-fn read_missing_key(alloc: Global, text: &[u8]) -> Result<Key, RowStop>
+fn read_missing_span_key(alloc: Global, text: &[u8]) -> Result<Key, RowStop>
     ensures { ReadsKeyAs result (missing_key (fields_of text.now)) }
 {
     if field_count(text) != 1 {
@@ -121,7 +121,7 @@ fn read_value_key(alloc: Global, file: SourceFile, content: &[u8]) -> Result<Key
         (row_fields file content.now)) }
 {
     match missing_rest(file, content) {
-        Some(rest) => read_missing_key(alloc, without_comment(rest)),
+        Some(rest) => read_missing_span_key(alloc, without_comment(rest)),
         None => read_code_key(alloc, without_comment(content)),
     }
 }

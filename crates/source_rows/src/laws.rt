@@ -4,7 +4,7 @@ ghost use Rattle.source_rows.specs.KeyGrammar.{KeysAreRead};
 ghost use Rattle.source_rows.specs.KeyNames.{ContentsHaveKeys};
 ghost use Rattle.source_rows.specs.KeyTexts.{KeyTextsReadBack};
 ghost use Rattle.source_rows.specs.Laws.{SpansAreRead, CategoriesAreNamed, PossibleRowsAreReadable, RowsAreRead, SpellingsAreOne, TextsReadBack};
-ghost use Rattle.source_rows.specs.Ranges.{FirstLinesTellRangeFaults};
+ghost use Rattle.source_rows.specs.Ranges.{FirstLineFaultsStay};
 ghost use Rattle.source_rows.specs.RowLines.{RowsAreLinesOrRanges};
 ghost use Rattle.source_rows.specs.Trivia.{RowsAreNoTrivia};
 
@@ -43,9 +43,9 @@ pub fn keys_are_read()
     ensures { KeysAreRead }
 {}
 
-/// What a first line of a range says of the fault of two lines.
-pub fn first_lines_tell_range_faults()
-    ensures { FirstLinesTellRangeFaults }
+/// A fault of a first line alone is the fault of the two lines, unless it is G09: then the two lines have no fault but G09 or G04.
+pub fn first_line_faults_stay()
+    ensures { FirstLineFaultsStay }
 {}
 
 /// Bytes that are read as a row are neither blank nor a comment.

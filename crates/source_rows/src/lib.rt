@@ -45,7 +45,7 @@ pub use key::Key;
 pub use key_names::{compare_names, content_section};
 pub use keys::read_key;
 pub use laws::{
-    categories_are_named, contents_have_keys, first_lines_tell_range_faults, key_texts_read_back,
+    categories_are_named, contents_have_keys, first_line_faults_stay, key_texts_read_back,
     keys_are_read, possible_rows_are_readable, rows_are_lines_or_ranges, rows_are_no_trivia,
     rows_are_read, spans_are_read, spellings_are_one, texts_read_back,
 };

@@ -27,6 +27,6 @@ rows-preserved c i key =
     let f : List ℕ → Option ℕ = number_at c.args.kinds.now (kind_of (property_by i)) in
     let b : List (List ℕ) → List (List (List ℕ)) = behind (index_in_names c.args.properties.now) i in
     let before : Option ℕ = number_at c.rows.maps.items i key in
-    one_more f b row rest before (number_at c.add_row_of.new.maps.items i key) key (c.in_ok-add_row_of.ensures i key)
+    one_more f b row rest before (number_at c.read_and_add_row.new.maps.items i key) key (c.in_ok-read_and_add_row.ensures i key)
     ∙ ap (λ (left : List Row). least before (rows_number f (flat_map b (alias_rows left)) key)) (sym split)
     ∙ c.rows.invariant i key

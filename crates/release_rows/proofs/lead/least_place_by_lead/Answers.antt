@@ -1,5 +1,5 @@
 use Rattle.release_rows.proofs.Leads.{lead_passes}
-use Rattle.release_rows.proofs.lead.skippable_by_lead.Goals as goal
+use Rattle.release_rows.proofs.lead.least_place_by_lead.Goals as goal
 
 pub returns-then-is_in_group_up_to : goal.returns-then-is_in_group_up_to
 returns-then-is_in_group_up_to c row items is lead =

@@ -1,4 +1,4 @@
--- What ages mean, and what a chain keeps of the forms. UAX #44, section 5.3; UAX #15, section 3.
+-- What ages mean, and what a chain keeps of the forms. UAX #44, section 5.14; UAX #15, section 3.
 -- AgeIsOfTheFirst    an age is the number of a release in which the code point is assigned, and of none before it; what has no age
 --                    is assigned in none; an age stays, whatever release follows
 -- FormsStayFrom      where no step from a release on breaks a policy on forms, a list of code points that are assigned in it has

@@ -1,4 +1,4 @@
--- The ages of code points over a chain of releases. Age is that of UAX #44, section 5.3, DerivedAge.txt; the text is this
+-- The ages of code points over a chain of releases. Age is that of UAX #44, section 5.14, DerivedAge.txt; the text is this
 -- project's own.
 -- first_with tests c        the least number of a test that c passes, counted from 1; None where it passes none
 -- is_assigned release c     c is assigned by the rows of the release now

@@ -17,7 +17,7 @@ use std::marker::Model;
 use ucd_model::{Memory, Point, Text};
 
 /// A chain of releases, in order: the bench of the last one, and the age of each code point, which is the number of the
-/// first release in which it is assigned. A code point that is removed keeps its age. UAX #44, section 5.3.
+/// first release in which it is assigned. A code point that is removed keeps its age. UAX #44, section 5.14.
 #[derive(Drop)]
 pub struct Chain {
     last: Option<Bench>,
@@ -99,7 +99,7 @@ impl Chain {
     }
 
     /// The text of DerivedAge.txt: `# Age`, a line for each maximal span of one age, `# total N`, and an empty line.
-    /// UAX #44, section 5.3.
+    /// UAX #44, section 5.14.
     ///
     /// - `Memory`: memory ran out.
     pub fn age_text(&self, alloc: Global) -> Result<Text, Memory>

@@ -1,4 +1,4 @@
-//! The ages of code points over a chain of releases: the first release in which each is assigned. UAX #44, section 5.3.
+//! The ages of code points over a chain of releases: the first release in which each is assigned. UAX #44, section 5.14.
 #![tactic(auto)]
 
 mod chain;

@@ -14,7 +14,7 @@ use std::alloc::Global;
 use ucd_model::{Memory, Text};
 
 /// Puts the section `Age`: a line for each maximal span of one age. Code points without an age are not listed.
-/// UAX #44, section 5.3.
+/// UAX #44, section 5.14.
 ///
 /// - `Memory`: memory ran out. A part of the section may then stand at the end of the text.
 pub fn put_ages(alloc: Global, ages: &RunTable<u8>, text: &mut Text) -> Result<(), Memory>

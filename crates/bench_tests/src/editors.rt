@@ -27,7 +27,7 @@ enum Act {
 
 /// What a reply says. The code points that differ are one number.
 #[derive(Clone, Copy, PartialEq, Debug)]
-pub enum Told {
+enum Told {
     Entered(u32),
     Accepted(u32, u64),
     Left,
@@ -40,7 +40,7 @@ pub enum Told {
 }
 
 /// One more code point in the number of those before: three of them lie side by side.
-pub fn with_point(before: u64, number: u32) -> u64 {
+fn with_point(before: u64, number: u32) -> u64 {
     before
         .wrapping_mul(0x20_0000)
         .wrapping_add(u64::from(number))
@@ -54,7 +54,7 @@ fn as_number(points: &[Point]) -> u64 {
 }
 
 /// What this reply says.
-pub fn in_words(reply: &Reply) -> Told {
+fn in_words(reply: &Reply) -> Told {
     match reply {
         Reply::Entered { revision } => Told::Entered(*revision),
         Reply::Accepted { revision, changed } => {
@@ -71,7 +71,7 @@ pub fn in_words(reply: &Reply) -> Told {
 }
 
 /// A proposal as an event.
-pub fn proposal_of(alloc: Global, editor: u32, base: u32, edits: &[Edit]) -> Result<Event, Fail>
+fn proposal_of(alloc: Global, editor: u32, base: u32, edits: &[Edit]) -> Result<Event, Fail>
     ensures { IfOk result IsEvent }
 {
     let group = group_of(alloc, edits)?;

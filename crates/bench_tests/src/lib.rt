@@ -6,12 +6,6 @@ mod benches;
 #[cfg(test)]
 mod dependants;
 #[cfg(test)]
-mod drawn_events;
-#[cfg(test)]
 mod editors;
 #[cfg(test)]
 mod groups;
-#[cfg(test)]
-mod histories;
-#[cfg(test)]
-mod turns;

@@ -1,6 +1,6 @@
-//! Worked stores, and a store against plain lists.
+//! Worked stores.
 
-use crate::plain::{Plain, drawn, drawn_span, expect, span};
+use crate::plain::{expect, span};
 use paged_table::PagedTable;
 use point_store::{SlotStore, Store};
 use range_table::{RunTable, Stretches};
@@ -34,32 +34,21 @@ impl<T: Stretches<u64>> Sweep for SlotStore<T, Name> {
 enum Look {
     Shares,
     Places,
-    Steps,
 }
 
 fn on_runs(rt: &impl Abort, alloc: Global, look: Look) -> Result<(), Memory> {
     on_a_store::<SlotStore<RunTable<u64>, Name>>(rt, alloc, look)
 }
 
-fn on_pages(rt: &impl Abort, alloc: Global, look: Look) -> Result<(), Memory> {
-    on_a_store::<SlotStore<PagedTable, Name>>(rt, alloc, look)
-}
-
 fn on_a_store<S: Sweep>(rt: &impl Abort, alloc: Global, look: Look) -> Result<(), Memory> {
     let mut store = S::filled(alloc, named(0))?;
-    look_at(rt, alloc, &mut store, look)
+    look_at(rt, &mut store, look)
 }
 
-fn look_at<S: Sweep>(
-    rt: &impl Abort,
-    alloc: Global,
-    store: &mut S,
-    look: Look,
-) -> Result<(), Memory> {
+fn look_at<S: Sweep>(rt: &impl Abort, store: &mut S, look: Look) -> Result<(), Memory> {
     match look {
         Look::Shares => look_at_shares(rt, store),
         Look::Places => look_at_places(rt, store),
-        Look::Steps => take_steps(rt, alloc, store),
     }
 }
 
@@ -152,80 +141,4 @@ fn take_place<S: Sweep>(store: &mut S, number: u64) -> Result<(), Memory> {
 #[test]
 fn places_of_values_that_went_are_taken_again(rt: HostRuntime) -> Result<(), Memory> {
     on_runs(&rt, rt.alloc(), Look::Places)
-}
-
-/// How many code points are looked at.
-const SHOWN: u32 = 0x180;
-
-/// Both have the same values, now and next.
-fn agree<S: Store<Name>>(rt: &impl Abort, store: &S, plain: &Plain) {
-    for number in 0..SHOWN {
-        let expected = plain
-            .values(number as usize)
-            .unwrap_or((u64::MAX, u64::MAX));
-        expect(rt, number, values(store, number), expected);
-    }
-}
-
-/// One step, drawn by lot: a span is prepared, what is next is committed or discarded, or room is given back and made.
-/// If memory is refused, next stays.
-fn step<S: Store<Name>>(store: &mut S, plain: &mut Plain, state: u64) -> u64 {
-    let (kind, state) = drawn(state, 8);
-    match kind {
-        0 => {
-            store.commit();
-            plain.commit();
-            state
-        }
-        1 => {
-            store.discard();
-            plain.discard();
-            state
-        }
-        2 => {
-            store.shrink_to_fit();
-            store.reserve(3, 2);
-            state
-        }
-        _ => prepare(store, plain, state),
-    }
-}
-
-fn prepare<S: Store<Name>>(store: &mut S, plain: &mut Plain, state: u64) -> u64 {
-    let (span, state) = drawn_span(state, SHOWN, 60);
-    let (value, state) = drawn(state, 3);
-    if put(store, span, value).is_ok() {
-        plain.set(span, value);
-    }
-    state
-}
-
-/// Prepares a value: if a code point of the span has it next, at its place.
-fn put<S: Store<Name>>(store: &mut S, span: Span, value: u64) -> Result<(), Memory> {
-    if store.get_next(span.lo).number == value {
-        let place = store.place_next(span.lo);
-        store.prepare_held(span, place)
-    } else {
-        store.prepare(span, named(value))
-    }
-}
-
-fn steps<S: Store<Name>>(rt: &impl Abort, store: &mut S, plain: &mut Plain) {
-    let mut state = 1;
-    for _ in 0..120 {
-        state = step(store, plain, state);
-        agree(rt, store, plain);
-    }
-}
-
-/// The steps, beside new plain lists.
-fn take_steps<S: Store<Name>>(rt: &impl Abort, alloc: Global, store: &mut S) -> Result<(), Memory> {
-    let mut plain = Plain::filled(alloc, 0, SHOWN as usize)?;
-    steps(rt, store, &mut plain);
-    Ok(())
-}
-
-#[test]
-fn any_steps_over_pages_as_in_plain_lists(rt: HostRuntime) -> Result<(), Memory> {
-    on_pages(&rt, rt.alloc(), Look::Steps)
 }

@@ -1,8 +1,5 @@
-//! Texts and their trees or faults, and random texts against a second reading of the grammar.
+//! Texts and their trees or faults.
 
-mod second_reading;
-
-use second_reading::is_text;
 use std::alloc::Global;
 use std::process::Abort;
 use ucd_lines::put_hex;
@@ -313,47 +310,4 @@ fn brackets_within_brackets(rt: HostRuntime) {
         let fault = nested_fault(rt.alloc(), *open, *closed);
         assert!(rt; fault == Ok(*wanted), "{open} {closed}");
     }
-}
-
-/// The next number of a row that looks random.
-fn next_number(number: u32) -> u32 {
-    number.wrapping_mul(1_664_525).wrapping_add(1_013_904_223)
-}
-
-/// The pieces that random texts are made of.
-const PIECES: [&[u8]; 16] = [
-    b"[", b"[", b"[^", b"]", b"]", b"]", b"-", b"-", b"&", b"a", b"b", b" ", b"\\p{L}", b"\\n",
-    b"^", b"{",
-];
-
-/// Puts so many random pieces in brackets.
-fn put_random(text: &mut Text, seed: u32, count: u32) -> Result<(), Memory> {
-    text.push(b'[')?;
-    let mut number = seed;
-    for _ in 0..count {
-        number = next_number(number);
-        text.append(PIECES[(number / 65_536 % 16) as usize])?;
-    }
-    text.push(b']')
-}
-
-/// Whether a text of so many random pieces is a set, by both readings; nothing if they differ.
-fn is_set(alloc: Global, seed: u32, count: u32) -> Result<Option<bool>, Memory> {
-    let mut text = Text::new(alloc);
-    put_random(&mut text, seed, count)?;
-    let is_set = fault_of(alloc, text.as_slice())?.is_none();
-    Ok((is_set == is_text(text.as_slice())).then_some(is_set))
-}
-
-#[test]
-fn random_texts(rt: HostRuntime) {
-    let mut sets = 0u32;
-    for seed in 0..20_000u32 {
-        let found = is_set(rt.alloc(), next_number(seed), 1 + seed % 8);
-        assert!(rt; matches!(found, Ok(Some(_))), "{seed}");
-        if found == Ok(Some(true)) {
-            sets = sets.wrapping_add(1);
-        }
-    }
-    assert!(rt; sets > 500, "{sets}");
 }

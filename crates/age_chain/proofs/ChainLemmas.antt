@@ -20,10 +20,6 @@ none_aged values zeros c = elim (cases_lt c 1114112) [
 pub number_aged : (values : ℕ → ℕ) (c v : ℕ) → c < 1114112 → v ≡ values c → (v ≡ 0 → ⊥) → Some v ≡ ages_of values c
 number_aged values c v lt is some = sym (ages_within values c lt ∙ ap age_of (sym is) ∙ ap (λ (t : Bool). if t then None else Some v) (ne_eqb v 0 some))
 
-pub with_err : {A E P : Type 0} (result : Result A E) → P → OnErr result P
-with_err (Ok x) p = tt
-with_err (Err e) p = p
-
 aged_number : (v n m : ℕ) (b : Bool) → n ≡ suc m → age_of (if b && (v == 0) then n else v) ≡ age_after (age_of v) n b
 aged_number v n m b e = subst (λ (k : ℕ). age_of (if b && (v == 0) then k else v) ≡ age_after (age_of v) k b) (sym e) (aged_is v m b)
 

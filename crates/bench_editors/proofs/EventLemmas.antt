@@ -61,6 +61,3 @@ counts_nothing s [] n = refl
 counts_nothing s (event ∷ events) n = (n, event_counts_nothing s event n, counts_nothing (answer s event).state events n)
 
 -- what holds anyway holds of an error
-pub on_err : {A E : Type 0} (result : Result A E) (P : Type 0) → P → OnErr result P
-on_err (Ok x) P h = tt
-on_err (Err e) P h = h

@@ -32,7 +32,3 @@ put_facts t rows spans words rests old point shows meet outside =
     facts_from_points words rests rows (λ c lt. facts_by (list_any (within c) spans) (all_kept words rests c) (old c) (made_facts t c) (facts rows c) (point c lt)
     (λ inside. (shows c lt).facts ∙ sym (facts_inside (rows_within (meets spans) rows) c (point_below c lt)) ∙ sym (facts_are_local (meets spans) rows c (λ row speaks. meet spans c row inside speaks)))
     (outside c lt))
-
-pub on_ok_map : {A E : Type 0} (r : Result A E) (X Y : Type 0) → (X → Y) → OnOk r X → OnOk r Y
-on_ok_map (Ok a) X Y f h = f h
-on_ok_map (Err e) X Y f h = tt

@@ -27,15 +27,6 @@ unfolding after_ops
 left_more files start n ops op lt is left =
     ap (λ (o : Op). after_ops files n (o ∷ drop (n + 1) ops)) is ∙ sym (ap (after_ops files n) (drop_more ops n op lt)) ∙ left
 
--- it is carried out
-pub on_ok : (told : Told) (P : Type 0) → OnOk told P → is_err told ≡ false → P
-on_ok (Ok x) P h e = h
-on_ok (Err stop) P h e = absurd cc
-
-pub not_ok : (told : Told) (P : Type 0) → is_err told ≡ true → OnOk told P
-not_ok (Ok x) P e = absurd cc
-not_ok (Err stop) P e = tt
-
 -- it stops the group
 stops_by : (told : Told) (files : Result Files KeyRule) (next : Files) (n : ℕ) (more : Files → Result Files Refused) (start : Result Files Refused) → is_err told ≡ true
     → then_ops n files more ≡ start → AnswersAs told (then_ops n files (λ f. Ok f)) next → AnswersAs told start next

@@ -139,18 +139,6 @@ pub sound_at : {T : Type 0} {d : Ghosts T ℕ} (version : NowOrNext) (t : FactTa
 sound_at Now t = record { listed = t.now_listed; packs = t.now_packs }
 sound_at Next t = record { listed = t.next_listed; packs = t.next_packs }
 
-pub on_ok_map : {A E : Type 0} (r : Result A E) (X Y : Type 0) → (X → Y) → OnOk r X → OnOk r Y
-on_ok_map (Ok a) X Y f h = f h
-on_ok_map (Err e) X Y f h = tt
-
 pub on_ok_both : {A E : Type 0} (r : Result A E) (X Y Z : Type 0) → (X → Y → Z) → OnOk r X → OnOk r Y → OnOk r Z
 on_ok_both (Ok a) X Y Z f h k = f h k
 on_ok_both (Err e) X Y Z f h k = tt
-
-pub on_ok : {A E : Type 0} (r : Result A E) (X : Type 0) → is_err r ≡ false → OnOk r X → X
-on_ok (Ok a) X none h = h
-on_ok (Err e) X none h = absurd (true≢false none)
-
-pub on_err_by : {A E : Type 0} (r : Result A E) (X : Type 0) → X → OnErr r X
-on_err_by (Ok a) X h = tt
-on_err_by (Err e) X h = h

@@ -29,10 +29,6 @@ module _ (pool pool' : Pool) (xs ys : List Block) (ok : IsApart pool xs ys) (liv
   pub values_next-stays : (c : ℕ) → values pool' ys c ≡ values pool ys c
   values_next-stays c = value_of-stays pool pool' (block_at ys (c / 256)) (c % 256) (λ p is. let used = or_right (is_page p (block_at xs (c / 256))) (is_page p (block_at ys (c / 256))) is in record { live = live p ∙ ok.live (c / 256) p used; words = λ a lt. words p a (ok.live (c / 256) p used) lt }) (omega arith)
 
-pub with_err : {T E P : Type 0} (r : Result T E) → P → OnErr r P
-with_err (Ok x) h = tt
-with_err (Err e) h = h
-
 -- a list is written over one of the same length
 pub refill : {A : Type 0} (n : ℕ) (ws ys : List A) → length ws ≡ n → take n (ws ++ ys) ≡ ws
 refill n ws ys is = subst (λ m. take m (ws ++ ys) ≡ ws) is (take-append_seam ws ys)

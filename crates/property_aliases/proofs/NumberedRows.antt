@@ -2,7 +2,6 @@
 -- known            a name that has a number is there
 -- numbered_more    one row more, with a name that is there or goes last
 -- numbered_still   no row more, but such a name
--- on_ok_then       what follows where a call answers
 use Rattle.std.proofs.Common.{◌≡◌, ℕ, zero, suc, Bool, true, false, if◌then◌else◌, ◌||◌, List, [], ◌∷◌, ◌++◌, Some, None, Result, Ok, Err, OnOk, refl, sym, subst, arith, slice_get, bytes_eq, append-nil}
 use Rattle.std.specs.List.{list_any}
 use Rattle.std.proofs.lemmas.Option.{slice_get_within, same_Some}
@@ -81,7 +80,3 @@ numbered_still names name rs above more none h =
     (subst (AreNumbered (add_name names name) rs) (sym (append-nil above)) (all_stay names name rs above h))
 
 -- ---- answers
-
-pub on_ok_then : {T E P Q : Type 0} (r : Result T E) → OnOk r P → (P → Q) → OnOk r Q
-on_ok_then (Ok x) h f = f h
-on_ok_then (Err e) h f = h

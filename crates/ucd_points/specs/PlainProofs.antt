@@ -4,6 +4,8 @@
 -- and_self       b, b again, and true together are b
 -- equal_is       an order that passes the test of equality is `Equal`
 -- lt_is          one that passes the test of less is `Less`
+-- on_ok_holds    what a call says of Ok holds if it answers no error
+-- on_err_from    what holds anyway holds if a call answers an error
 -- any_map        whether a member of a mapped list passes
 -- map_insert     a mapped list into which one was inserted
 -- range_more     one number more
@@ -12,8 +14,9 @@
 -- filter_alike   tests that agree on the numbers of a range keep the same ones
 -- count_more     how many pass, of one number more
 -- count_alike    if the next j numbers pass all or none
-use Rattle.std.proofs.Common.{◌≡◌, ℕ, zero, suc, ◌+◌, ◌<◌, ◌≤◌, Bool, true, false, cond, ◌&&◌, if◌then◌else◌, List, [], ◌∷◌, ◌++◌, map, filter, count_by, insert, take, drop, refl, sym, ap, ◌∙◌, arith, Ordering, Less, Equal, is_eq, is_lt, append-nil, map-id}
+use Rattle.std.proofs.Common.{◌≡◌, ℕ, zero, suc, ◌+◌, ◌<◌, ◌≤◌, Bool, true, false, cond, ◌&&◌, if◌then◌else◌, List, [], ◌∷◌, ◌++◌, map, filter, count_by, insert, take, drop, Result, Ok, Err, OnOk, OnErr, is_err, refl, sym, ap, ◌∙◌, arith, Ordering, Less, Equal, is_eq, is_lt, append-nil, map-id}
 use Rattle.std.specs.List.{list_any, range_with_len}
+use Rattle.std.proofs.lemmas.Bool.{true≢false}
 use Rattle.std.proofs.lemmas.List.{drop-map, map-append, take-map}
 use Rattle.std.proofs.lemmas.List.FromFn.{filter_of_map_range_with_len_more, map-range_with_len_more, sum_by-map-range_with_len_more}
 
@@ -39,6 +42,16 @@ equal_is _ h = absurd cc
 pub lt_is : (o : Ordering) → is_lt o ≡ true → o ≡ Less
 lt_is Less h = refl
 lt_is _ h = absurd cc
+
+-- ---- answers
+
+pub on_ok_holds : {T E : Type 0} (r : Result T E) (P : Type 0) → is_err r ≡ false → OnOk r P → P
+on_ok_holds (Ok x) P fine h = h
+on_ok_holds (Err e) P fine h = absurd (true≢false fine)
+
+pub on_err_from : {T E P : Type 0} (r : Result T E) → P → OnErr r P
+on_err_from (Ok x) h = tt
+on_err_from (Err e) h = h
 
 -- ---- lists
 

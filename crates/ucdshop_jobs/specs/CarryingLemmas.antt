@@ -43,10 +43,6 @@ session_counts_none s [] n = refl
 session_counts_none s (command ∷ rest) n = (n, command_counts_none s.files command.what n, session_counts_none (step s command) rest n)
 
 -- what holds whatever the result is
-pub on_err : {A B : Type 0} {P : Type 0} (result : Result A B) → P → IfErr result (λ _. P)
-on_err (Ok x) p = tt
-on_err (Err e) p = p
-
 -- the first command is a question, and with it those behind it are answered
 pub question_counts : (result : Result (Bor (List Command)) NoMemory) (files : List (List FileItem)) (carried : Carried) (commands : List Command) (first : Command) (behind : List Command) (text : List ℕ) (s : Session) (count old n : ℕ)
     → commands ≡ first ∷ behind → first.what ≡ Question text → IfOk result (λ rest. AnswersFront files (step_by s first.line (Question text)) count behind carried rest.now)

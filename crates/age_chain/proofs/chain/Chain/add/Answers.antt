@@ -1,10 +1,11 @@
 use Rattle.std.proofs.Common.{refl, ◌∙◌, ◌+◌}
-use Rattle.age_chain.proofs.ChainLemmas.{stands_longer, with_err}
+use Rattle.ucd_points.specs.PlainProofs.{on_err_from}
+use Rattle.age_chain.proofs.ChainLemmas.{stands_longer}
 use Rattle.age_chain.proofs.TableLemmas.{same_ages}
 use Rattle.age_chain.proofs.chain.Chain.add.Goals as goal
 
 pub returns-in_err-breaks-clause-err : goal.returns-in_err-breaks-clause-err
-returns-in_err-breaks-clause-err c = with_err c.from_residual.result (rw (← c.self.view_is) (record { count = refl; last = refl; ages = same_ages _ _ c.in_err-breaks.ensures.now }))
+returns-in_err-breaks-clause-err c = on_err_from c.from_residual.result (rw (← c.self.view_is) (record { count = refl; last = refl; ages = same_ages _ _ c.in_err-breaks.ensures.now }))
 
 pub returns-clause-chain : goal.returns-clause-chain
 returns-clause-chain c =

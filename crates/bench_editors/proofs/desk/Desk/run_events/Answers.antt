@@ -1,13 +1,14 @@
 use Rattle.std.proofs.Common.{◌<◌, List, ◌∷◌, [], ◌++◌, length, take, sym, ap, subst, ◌∙◌, arith, take_all}
+use Rattle.ucd_points.specs.PlainProofs.{on_err_from}
 use Rattle.bench_editors.specs.Desks.{DeskState, EventsCount, after_events, replies}
 use Rattle.bench_editors.specs.Standing.{StandsFor, StopsWithin}
 use Rattle.bench_editors.specs.declared.event.Event.{Event}
 use Rattle.bench_editors.specs.declared.reply.Reply.{Reply}
-use Rattle.bench_editors.proofs.EventLemmas.{after_more, counts_more, counts_nothing, on_err, replies_more, stops}
+use Rattle.bench_editors.proofs.EventLemmas.{after_more, counts_more, counts_nothing, replies_more, stops}
 use Rattle.bench_editors.proofs.desk.Desk.run_events.Goals as goal
 
 pub returns-in_err-replies-clause-err : goal.returns-in_err-replies-clause-err
-returns-in_err-replies-clause-err g c = on_err c.from_residual.result ((s : DeskState) → StandsFor c.args.self.now s → StopsWithin s c.args.events.now c.args.self.now c.args.steps.now c.args.steps.now)
+returns-in_err-replies-clause-err g c = on_err_from c.from_residual.result
     (λ s st. record { handled = 0; state = st; counted = counts_nothing s (take 1 c.args.events.now) c.args.steps.now })
 
 pub events-init : goal.events-init
@@ -26,7 +27,7 @@ step-requires-clause-room g c =
     omega (arith, c.requires.room, c.events.invariant.room)
 
 pub returns-in_err-reply-clause-err : goal.returns-in_err-reply-clause-err
-returns-in_err-reply-clause-err g c = on_err c.from_residual-in_err-reply.result ((s : DeskState) → StandsFor c.args.self.now s → StopsWithin s c.args.events.now c.step.new.self c.args.steps.now c.step.new.steps) (λ s st.
+returns-in_err-reply-clause-err g c = on_err_from c.from_residual-in_err-reply.result (λ s st.
     let lt : c.events.event-index < length c.args.events.now = omega arith in
     stops s c.args.events.now c.events.event-index c.event-item.result lt c.event-item.is c.events.self c.step.new.self c.args.steps.now c.events.steps c.step.new.steps
     (c.events.invariant.state s st) c.in_err-reply.ensures.err (c.events.invariant.counted s st) (c.step.ensures.counted _ (c.events.invariant.state s st)))

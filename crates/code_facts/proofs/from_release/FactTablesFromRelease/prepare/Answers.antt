@@ -1,4 +1,5 @@
 use Rattle.std.proofs.Common.{◌≡◌, ℕ, ◌<◌, [], false, List, refl, sym, ap, subst, ◌∙◌, arith}
+use Rattle.std.proofs.lemmas.Result.{on_ok_weaker}
 use Rattle.std.proofs.lemmas.Bool.Decides.{nat_tests}
 use Rattle.std.proofs.lemmas.List.{nil_from_length}
 use Rattle.std.specs.List.{list_any}
@@ -11,7 +12,7 @@ use Rattle.code_facts.specs.RowTables.{ShowsRows}
 use Rattle.release_rows.specs.Releases.{rows_next}
 use Rattle.fact_tables.specs.declared.now_or_next.NowOrNext.TheVariants.{Now, Next}
 use Rattle.code_facts.proofs.FactLemmas.{facts_from_points}
-use Rattle.code_facts.proofs.ReleaseLemmas.{shown_packs, put_facts, on_ok_map}
+use Rattle.code_facts.proofs.ReleaseLemmas.{shown_packs, put_facts}
 use Rattle.code_facts.proofs.from_release.FactTablesFromRelease.prepare.Goals as goal
 
 -- where no span is touched, the facts now are those of the rows next
@@ -31,7 +32,7 @@ pub returns-clause-ok : goal.returns-clause-ok
 returns-clause-ok g c =
     let t = c.args.self.now in
     let rows = rows_next c.args.after.now in
-    on_ok_map c.refill.result _ _
+    on_ok_weaker c.refill.result
     (λ point. put_facts c.in_ok-made.made rows c.as_slice-4.result.now (words_at Next c.refill.new.self) (rests_at Next c.refill.new.self) (facts_at Next t) point (subst (λ (spans : List Bounds). (k : ℕ) → k < 1114112 → ShowsRows c.in_ok-made.made (rows_within (meets spans) rows) k) (c.as_slice-3.ensures ∙ sym c.as_slice-4.ensures) c.in_ok-made.ensures) c.speaking_rows_meet_spans.ensures
     (λ k lt none. ap (λ (F : ℕ → Facts). F k) c.requires.ready
     ∙ c.requires.touched k lt (ap (list_any (within k)) (sym c.as_slice-2.ensures) ∙ sym (c.in_ok-spans.ensures.covered k) ∙ ap (list_any (within k)) (sym c.as_slice-4.ensures) ∙ none)))
